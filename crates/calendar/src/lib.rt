@@ -1,0 +1,3 @@
+// The calendar: day numbers, dates, months and their lengths, and the seasons of curtailment.
+pub mod date;
+pub mod season;
