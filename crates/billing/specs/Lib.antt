@@ -1,0 +1,6 @@
+pub mod Amounts
+pub mod Highest
+pub mod Limits
+pub mod Months
+pub mod Prices
+pub mod Schedules

@@ -1,0 +1,36 @@
+-- The limits of a month's figures.
+use Prim.Native.Nat.{ℕ, _*_}
+use mathlib.Core.Bool.{Bool, true, false, cond, _&&_, _||_}
+use mathlib.Core.List.{List, [], _∷_}
+use mathlib.Core.Path.{_≡_}
+use lib.Dec.{leb, eqb}
+use lib.ListN.{getD}
+use Rattle.billing.specs.declared.figures.Figures.{Figures}
+
+-- the days of each month of a common year, January first
+abbrev pub lengths : List ℕ
+lengths = 31 ∷ 28 ∷ 31 ∷ 30 ∷ 31 ∷ 30 ∷ 31 ∷ 31 ∷ 30 ∷ 31 ∷ 30 ∷ 31 ∷ []
+
+-- a month of this number can have this many days; February has a 29th now and then
+abbrev pub hasDays : ℕ → ℕ → Bool
+hasDays number days =
+    leb 1 number && (leb number 12 && (eqb days (getD (0 ∷ lengths) number 0) || (eqb number 2 && eqb days 29)))
+
+-- demands within the meter's range, an entered bill within its own
+abbrev pub modest : Figures → Bool
+modest m = leb (m .peak) 100000 && (leb (m .supplementary) 100000 && leb (m .entered) 4000000000)
+
+-- the energy is that of 48 half hours a day, of which the highest is the peak
+abbrev pub measured : Figures → Bool
+measured m = leb (m .peak) (m .energy) && leb (m .energy) (48 * m .days * m .peak)
+
+-- the half hours in windows are at most 20 a day, none of them above the peak
+abbrev pub windowed : Figures → Bool
+windowed m = leb (m .halves) (20 * m .days) && leb (m .curtailable) (m .halves * m .peak)
+
+-- the figures keep all their limits
+abbrev pub within : Figures → Bool
+within m = hasDays (m .number) (m .days) && (modest m && (measured m && windowed m))
+
+abbrev pub Within : Figures → Type 0
+Within m = within m ≡ true
