@@ -1,5 +1,5 @@
 -- The limits of a month's figures.
-use Prim.Native.Nat.{ℕ, _*_}
+use Prim.Native.Nat.{ℕ, _*_, _≤_}
 use mathlib.Core.Bool.{Bool, true, false, cond, _&&_, _||_}
 use mathlib.Core.List.{List, [], _∷_}
 use mathlib.Core.Path.{_≡_}
@@ -34,3 +34,15 @@ within m = hasDays (m .number) (m .days) && (modest m && (measured m && windowed
 
 abbrev pub Within : Figures → Type 0
 Within m = within m ≡ true
+
+-- what the limits come to, figure by figure
+pub record Limited (m : Figures) : Type 0 where
+  pub number : m .number ≤ 12
+  pub days : m .days ≤ 31
+  pub peak : m .peak ≤ 100000
+  pub supplementary : m .supplementary ≤ 100000
+  pub entered : m .entered ≤ 4000000000
+  pub energy : m .energy ≤ 148800000
+  pub halves : m .halves ≤ 620
+  pub curtailable : m .curtailable ≤ 62000000
+  pub under : m .curtailable ≤ m .halves * m .peak

@@ -1,6 +1,6 @@
 // Making a month, which refuses figures outside their limits, and reading it.
 ghost use mathlib.Core.Path.{_≡_};
-ghost use Rattle.billing.specs.Limits.{hasDays};
+ghost use Rattle.billing.specs.Limits.{hasDays, Limited};
 ghost use Rattle.billing.specs.Months.{figuresOf, checked, mapOk};
 use crate::fault::TermsFault;
 use crate::figures::Figures;
@@ -41,7 +41,8 @@ impl Month {
 
     // Its figures.
     pub fn figures(&self) -> Figures
-        ensures { λ r. ⌜ r ≡ figuresOf (now (self .entry)) ⌝ }
+        ensures value { λ r. ⌜ r ≡ figuresOf (now (self .entry)) ⌝ }
+        ensures limited { λ r. ⌜ Limited r ⌝ }
     {
         self.figures
     }

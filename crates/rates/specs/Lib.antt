@@ -1,0 +1,5 @@
+pub mod Bills
+pub mod Entering
+pub mod Gs3ev
+pub mod Kept
+pub mod Riders
