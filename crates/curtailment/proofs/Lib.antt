@@ -1,0 +1,3 @@
+pub mod Loads
+pub mod Plants
+pub mod Seasons

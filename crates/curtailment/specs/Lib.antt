@@ -1,0 +1,4 @@
+pub mod Asking
+pub mod Metering
+pub mod Pricing
+pub mod Standing
