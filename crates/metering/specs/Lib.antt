@@ -1,0 +1,4 @@
+pub mod Acceptance
+pub mod Days
+pub mod Notices
+pub mod Periods
