@@ -1,0 +1,2 @@
+// A month's worksheet: its text with terms and readings in, its bill and credit as a report out.
+pub mod scan;
