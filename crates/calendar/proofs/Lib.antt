@@ -1,0 +1,3 @@
+-- The lemmas of the calendar.
+pub mod Counting
+pub mod Dating

@@ -1,3 +1,5 @@
 // The calendar: day numbers, dates, months and their lengths, and the seasons of curtailment.
 pub mod date;
+pub mod length;
+pub mod number;
 pub mod season;
