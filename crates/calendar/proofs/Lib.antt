@@ -1,3 +1,4 @@
 -- The lemmas of the calendar.
 pub mod Counting
 pub mod Dating
+pub mod Following

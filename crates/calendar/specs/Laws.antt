@@ -4,6 +4,7 @@ use mathlib.Core.Path.{_≡_}
 use mathlib.Core.Bool.{cond}
 use lib.Dec.{ltb}
 use Rattle.calendar.specs.declared.date.Date.{Date}
+use Rattle.calendar.specs.declared.date.CalendarMonth.{CalendarMonth}
 use Rattle.calendar.specs.Dates.{date, dateOf, dayNumber, firstDay, monthLength, lastDay}
 
 -- a date that the calendar has
@@ -21,3 +22,7 @@ dayAfter d =
     cond (ltb (d .day) (monthLength (d .year) (d .month))) (date (d .year) (d .month) (d .day + 1))
     (cond (ltb (d .month) 12) (date (d .year) (d .month + 1) 1)
     (date (d .year + 1) 1 1))
+
+-- months in their order
+abbrev pub monthIndex : CalendarMonth → ℕ
+monthIndex m = 12 * m .year + m .month
