@@ -28,6 +28,12 @@ february-least y = cond-both (leap y) 29 28 (λ x. 28 ≤ x) (λ e. omega arith)
 pub month-least : (y m : ℕ) → 1 ≤ m → m ≤ 12 → 28 ≤ monthLength y m
 month-least y m a b = let f = february-least y in grind (arith, tells)
 
+pub february-most : (y : ℕ) → cond (leap y) 29 28 ≤ 29
+february-most y = cond-both (leap y) 29 28 (λ x. x ≤ 29) (λ e. omega arith) (λ e. omega arith)
+
+pub month-most : (y m : ℕ) → monthLength y m ≤ 31
+month-most y m = let f = february-most y in grind (arith, tells)
+
 -- a day of a month is a day of its year
 pub month-in-year : (y j q : ℕ) → j ≤ 11 → q < monthLength y (1 + j) → total (monthLength y) 1 j + q < yearLength y
 month-in-year y j q h l =

@@ -12,7 +12,7 @@ use Rattle.calendar.specs.declared.date.Date.{Date}
 use Rattle.calendar.specs.Dates.{yearLength, monthLength, total, date, dateOf, firstDay, dayNumber, monthOf, lastDay}
 use Rattle.calendar.specs.Laws.{Real, dayAfter, monthIndex}
 use Rattle.calendar.proofs.Counting.{total-last, total-grows, total-fewer}
-use Rattle.calendar.proofs.Dating.{Count, count-of, count-date, date-at, dateOf-is, dateOf-real, dateOf-number, months-fill, month-least, same-date}
+use Rattle.calendar.proofs.Dating.{Count, count-of, count-date, date-at, dateOf-is, dateOf-real, dateOf-number, months-fill, month-least, month-most, same-date}
 
 -- the three ways on from a date
 pub after-in-month : (d : Date) → d .day < monthLength (d .year) (d .month) → dayAfter d ≡ date (d .year) (d .month) (d .day + 1)
@@ -92,22 +92,52 @@ in-its-month n h =
     let r = dateOf-real n h in
     (omega (arith, e), omega (arith, e, r .from-first, r .to-last))
 
--- from a day to the next the month does not go back
-pub month-step : (n : ℕ) → n < lastDay → monthIndex (monthOf (dateOf n)) ≤ monthIndex (monthOf (dateOf (n + 1)))
-month-step n h =
-    elim (cases-lt (n + 1) (firstDay (dateOf n .year) (dateOf n .month) + monthLength (dateOf n .year) (dateOf n .month))) [
-      inl l ↦ let e = ap monthIndex (month-stays n h l) in omega (arith, e)
-    | inr g ↦ let p = in-its-month n (omega arith) in let e = month-turns n h (omega (arith, p)) in omega (arith, e)
+-- dates by year, then month, then day
+abbrev pub rank : Date → ℕ
+rank d = 32 * monthIndex (monthOf d) + d .day
+
+pub after-rank : (d : Date) → Real d → rank d < rank (dayAfter d)
+after-rank d r =
+    let most = month-most (d .year) (d .month) in
+    elim (cases-lt (d .day) (monthLength (d .year) (d .month))) [
+      inl l ↦ rw (after-in-month d l) (omega arith)
+    | inr g ↦
+      elim (cases-lt (d .month) 12) [
+        inl l ↦ rw (after-in-year d g l) (omega (arith, r .to-last, most))
+      | inr e ↦ rw (after-year d g e) (omega (arith, r .to-last, r .to-December, most))
+      ]
+    ]
+
+pub rank-step : (n : ℕ) → n < lastDay → rank (dateOf n) < rank (dateOf (n + 1))
+rank-step n h = rw (next-day n h) (after-rank (dateOf n) (dateOf-real n (omega arith)))
+
+-- later days have later dates
+pub dates-in-order : (n k : ℕ) → n ≤ k → k ≤ lastDay → rank (dateOf n) ≤ rank (dateOf k)
+dates-in-order n k h =
+    le-ind (λ (m : ℕ). m ≤ lastDay → rank (dateOf n) ≤ rank (dateOf m))
+    (λ _. omega arith)
+    (λ m g before l.
+      let s = rank-step m (omega arith) in
+      let b = before (omega arith) in
+      let e = ap (λ (x : ℕ). rank (dateOf x)) (add-one m) in
+      omega (arith, s, b, e))
+    k h
+
+-- and later dates are of later days
+pub days-in-order : (n k : ℕ) → n ≤ lastDay → rank (dateOf n) ≤ rank (dateOf k) → n ≤ k
+days-in-order n k h l =
+    elim (cases-lt k n) [
+      inl g ↦
+        let s = rank-step k (omega arith) in
+        let b = dates-in-order (k + 1) n (omega arith) h in
+        absurd (omega (arith, s, b))
+    | inr e ↦ e
     ]
 
 -- months never go back
 pub months-in-order : (n k : ℕ) → n ≤ k → k ≤ lastDay → monthIndex (monthOf (dateOf n)) ≤ monthIndex (monthOf (dateOf k))
-months-in-order n k h =
-    le-ind (λ (m : ℕ). m ≤ lastDay → monthIndex (monthOf (dateOf n)) ≤ monthIndex (monthOf (dateOf m)))
-    (λ _. omega arith)
-    (λ m g before l.
-      let s = month-step m (omega arith) in
-      let b = before (omega arith) in
-      let e = ap (λ (x : ℕ). monthIndex (monthOf (dateOf x))) (add-one m) in
-      omega (arith, s, b, e))
-    k h
+months-in-order n k h l =
+    let o = dates-in-order n k h l in
+    let r = dateOf-real k l in
+    let most = month-most (dateOf k .year) (dateOf k .month) in
+    omega (arith, o, r .to-last, most)

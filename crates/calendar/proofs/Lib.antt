@@ -2,3 +2,4 @@
 pub mod Counting
 pub mod Dating
 pub mod Following
+pub mod Holding

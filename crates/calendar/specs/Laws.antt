@@ -5,6 +5,9 @@ use mathlib.Core.Bool.{cond}
 use lib.Dec.{ltb}
 use Rattle.calendar.specs.declared.date.Date.{Date}
 use Rattle.calendar.specs.declared.date.CalendarMonth.{CalendarMonth}
+use Rattle.calendar.specs.declared.season.Season.{Season}
+use Rattle.calendar.specs.declared.season.SeasonKind.{SeasonKind}
+use Rattle.calendar.specs.declared.season.SeasonKind.the-variants.{Summer, Winter}
 use Rattle.calendar.specs.Dates.{date, dateOf, dayNumber, firstDay, monthLength, lastDay}
 
 -- a date that the calendar has
@@ -26,3 +29,11 @@ dayAfter d =
 -- months in their order
 abbrev pub monthIndex : CalendarMonth → ℕ
 monthIndex m = 12 * m .year + m .month
+
+abbrev pub kindIndex : SeasonKind → ℕ
+kindIndex Summer = 0
+kindIndex Winter = 1
+
+-- seasons in their order
+abbrev pub seasonIndex : Season → ℕ
+seasonIndex s = 2 * s .year + kindIndex (s .kind)
