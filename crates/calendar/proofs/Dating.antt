@@ -109,3 +109,9 @@ dateOf-number n h =
     let a = ap (total yearLength 2000) ye in
     let b = ap (total (monthLength (2000 + c .k)) 1) me in
     ap dayNumber (count-date n c) ∙ omega (arith, a, b, c .sum)
+
+pub first-date : dateOf 0 ≡ date 2000 1 1
+first-date = date-at 0 0 0 0 (omega arith) (omega arith) (omega arith) refl
+
+pub last-date : dateOf lastDay ≡ date 2100 1 1
+last-date = date-at lastDay 100 0 0 (omega arith) (omega arith) (omega arith) refl

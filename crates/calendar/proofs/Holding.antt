@@ -5,39 +5,21 @@ use mathlib.Core.Logic.{_⊎_, inl, inr}
 use mathlib.Core.Bool.{Bool, true, false, cond, _&&_, _||_}
 use native.Mathlib.Omega.{arith}
 use lib.Dec.{ltb, leb, eqb}
-use Rattle.std.proofs.shelf.Tests.{cases-bool, cases-lt, cond-true, cond-false, and-parts, and-from, leb-true, le-leb, lt-leb, or-left}
+use Rattle.std.proofs.shelf.Tests.{cases-lt, cond-true, cond-false, and-left}
 use Rattle.std.proofs.shelf.Ways.{tells}
-use Rattle.std.specs.declared.option.Option.{Option}
 use Rattle.std.specs.declared.option.Option.the-variants.{Some, None}
 use Rattle.calendar.specs.declared.date.Date.{Date}
 use Rattle.calendar.specs.declared.date.CalendarMonth.{CalendarMonth}
 use Rattle.calendar.specs.declared.season.Season.{Season}
 use Rattle.calendar.specs.declared.season.SeasonKind.{SeasonKind}
 use Rattle.calendar.specs.declared.season.SeasonKind.the-variants.{Summer, Winter}
-use Rattle.calendar.specs.Dates.{yearLength, monthLength, total, firstDay, date, dateOf, dayNumber, monthOf, lastDay, begins, numbered, numberOf}
+use Rattle.calendar.specs.Dates.{monthLength, firstDay, date, dateOf, monthOf, lastDay, begins, numberOf}
 use Rattle.calendar.specs.Seasons.{inSummer, inDecember, inLateWinter, summer, winter, seasonOf, firstDate, lastDate, seasonFirst, seasonLast, creditedSeason}
 use Rattle.calendar.specs.Laws.{Real, monthIndex, seasonIndex}
-use Rattle.calendar.proofs.Dating.{month-most, month-least, month-in-year, dateOf-is, dateOf-real, dateOf-number}
-use Rattle.calendar.proofs.Counting.{total-last, total-grows}
+use Rattle.calendar.proofs.Choosing.{Taken, taken}
+use Rattle.calendar.proofs.Dating.{month-most, month-least, dateOf-real, last-date}
+use Rattle.calendar.proofs.Numbering.{Known, known, before-last, has-number}
 use Rattle.calendar.proofs.Following.{rank, dates-in-order, days-in-order}
-
-pub some-is : {X : Type 0} {x y : X} → Some x ≡ Some y → x ≡ y
-some-is e = cc
-
-pub none-some : {X : Type 0} {x : X} → None ≡ Some x → ⊥
-none-some e = let z : _≡_ {A = ℕ} 0 1 = cc in omega arith
-
--- a choice between three, and none: which of them was taken
-pub record Taken {X : Type 0} (test : Bool) (is s : X) : Type 0 where
-  pub so : test ≡ true
-  pub same : is ≡ s
-
-pub taken : {X : Type 0} (p q r : Bool) (x y z s : X) → cond p (Some x) (cond q (Some y) (cond r (Some z) None)) ≡ Some s
-    → Taken p x s ⊎ (Taken q y s ⊎ Taken r z s)
-taken true q r x y z s e = inl (record { so = refl; same = some-is e })
-taken false true r x y z s e = inr (inl (record { so = refl; same = some-is e }))
-taken false false true x y z s e = inr (inr (record { so = refl; same = some-is e }))
-taken false false false x y z s e = absurd (none-some e)
 
 pub held : (d : Date) (s : Season) → seasonOf d ≡ Some s
     → Taken (inSummer d) (summer (d .year)) s ⊎ (Taken (inDecember d) (winter (d .year)) s ⊎ Taken (inLateWinter d) (winter (d .year - 1)) s)
@@ -122,30 +104,52 @@ holds-by Winter y d r p = winter-holds d y r p
 pub holds : (s : Season) (d : Date) → Real d → Spanned s d → seasonOf d ≡ Some s
 holds s d r p = holds-by (s .kind) (s .year) d r p
 
--- a date with a number: it is real, and the number's date is that date
-pub record Known (d : Date) (n : ℕ) : Type 0 where
-  pub real : Real d
-  pub number : dayNumber d ≡ n
-  pub within : n ≤ lastDay
-  pub back : dateOf n ≡ d
+-- a day held by a season comes no earlier than its first day
+pub held-from : (n : ℕ) (s : Season) (f : ℕ) → n ≤ lastDay → seasonOf (dateOf n) ≡ Some s → seasonFirst s ≡ Some f → f ≤ n
+held-from n s f h e g =
+    let r = dateOf-real n h in
+    let p = spanned (dateOf n) (omega (arith, r .from-2000)) (r .from-first) (r .to-last) s e in
+    let k = known (firstDate s) f g in
+    let b = ap rank (k .back) in
+    days-in-order f n (k .within) (omega (arith, b, p .from))
 
-given : (p : Bool) (x n : ℕ) → cond p (Some x) None ≡ Some n → Taken p x n
-given true x n e = record { so = refl; same = some-is e }
-given false x n e = absurd (none-some e)
+-- nor later than its last
+pub held-to : (n : ℕ) (s : Season) (l : ℕ) → n ≤ lastDay → seasonOf (dateOf n) ≡ Some s → seasonLast s ≡ Some l → n ≤ l
+held-to n s l h e g =
+    let r = dateOf-real n h in
+    let p = spanned (dateOf n) (omega (arith, r .from-2000)) (r .from-first) (r .to-last) s e in
+    let k = known (lastDate s) l g in
+    let b = ap rank (k .back) in
+    days-in-order n l h (omega (arith, b, p .to))
 
-pub known : (d : Date) (n : ℕ) → numberOf d ≡ Some n → Known d n
-known d n e =
-    let t = given (numbered d) (dayNumber d) n e in
-    let a = and-parts (begins (monthOf d)) _ (t .so) in
-    let b = and-parts (leb 1 (d .day)) _ (a .1) in
-    let c = and-parts (leb (d .day) (monthLength (d .year) (d .month))) _ (b .1) in
-    let m = a .0 in
-    let real : Real d = record {
-      from-2000 = grind (arith, tells); to-2100 = grind (arith, tells);
-      from-January = grind (arith, tells); to-December = grind (arith, tells);
-      from-first = leb-true 1 (d .day) (b .0); to-last = leb-true _ _ (c .0)
-    } in
-    record {
-      real = real; number = t .same; within = omega (arith, leb-true (dayNumber d) lastDay (c .1), t .same);
-      back = ap dateOf (sym (t .same)) ∙ dateOf-is d real
-    }
+-- and each day between them is held by it
+pub held-between : (n : ℕ) (s : Season) (f l : ℕ) → seasonFirst s ≡ Some f → seasonLast s ≡ Some l → f ≤ n → n ≤ l → seasonOf (dateOf n) ≡ Some s
+held-between n s f l a b g h =
+    let i = known (firstDate s) f a in
+    let j = known (lastDate s) l b in
+    let within : n ≤ lastDay = omega (arith, j .within) in
+    let p = dates-in-order f n g within in
+    let q = dates-in-order n l h (j .within) in
+    let x = ap rank (i .back) in
+    let y = ap rank (j .back) in
+    holds s (dateOf n) (dateOf-real n within) (record { from = omega (arith, p, x); to = omega (arith, q, y) })
+
+-- the days before the first winter's last day are held by it
+pub first-winter : (n l : ℕ) → seasonLast (winter 1999) ≡ Some l → n ≤ l → seasonOf (dateOf n) ≡ Some (winter 1999)
+first-winter n l b h =
+    let j = known (lastDate (winter 1999)) l b in
+    let within : n ≤ lastDay = omega (arith, j .within) in
+    let q = dates-in-order n l h (j .within) in
+    let y = ap rank (j .back) in
+    let r = dateOf-real n within in
+    winter-holds (dateOf n) 1999 r (record { from = omega (arith, r .from-2000, r .from-January, r .from-first); to = omega (arith, q, y) })
+
+-- the days from the last winter's first day on are held by it
+pub last-winter : (n f : ℕ) → seasonFirst (winter 2099) ≡ Some f → f ≤ n → n ≤ lastDay → seasonOf (dateOf n) ≡ Some (winter 2099)
+last-winter n f a g h =
+    let i = known (firstDate (winter 2099)) f a in
+    let p = dates-in-order f n g h in
+    let x = ap rank (i .back) in
+    let q = dates-in-order n lastDay h (omega arith) in
+    let y = ap rank last-date in
+    winter-holds (dateOf n) 2099 (dateOf-real n h) (record { from = omega (arith, p, x); to = omega (arith, q, y) })
