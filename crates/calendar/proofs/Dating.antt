@@ -115,3 +115,15 @@ first-date = date-at 0 0 0 0 (omega arith) (omega arith) (omega arith) refl
 
 pub last-date : dateOf lastDay ≡ date 2100 1 1
 last-date = date-at lastDay 100 0 0 (omega arith) (omega arith) (omega arith) refl
+
+-- two days of one date are one day
+pub one-day : (n k : ℕ) → n ≤ lastDay → k ≤ lastDay → dateOf n ≡ dateOf k → n ≡ k
+one-day n k h l e = sym (dateOf-number n h) ∙ ap dayNumber e ∙ dateOf-number k l
+
+-- the days from a month's first to its last are in that month
+pub held-by-month : (n y m : ℕ) → 2000 ≤ y → y ≤ 2100 → 1 ≤ m → m ≤ 12 → firstDay y m ≤ n → n < firstDay y m + monthLength y m → dateOf n ≡ date y m (n - firstDay y m + 1)
+held-by-month n y m a b c e f g =
+    let d = date y m (n - firstDay y m + 1) in
+    let r : Real d = record { from-2000 = a; to-2100 = b; from-January = c; to-December = e; from-first = omega arith; to-last = omega arith } in
+    let i : n ≡ dayNumber d = omega arith in
+    ap dateOf i ∙ dateOf-is d r

@@ -153,3 +153,81 @@ last-winter n f a g h =
     let q = dates-in-order n lastDay h (omega arith) in
     let y = ap rank last-date in
     winter-holds (dateOf n) 2099 (dateOf-real n h) (record { from = omega (arith, p, x); to = omega (arith, q, y) })
+
+-- a day of a month in the years 2000 to 2099, by the month's first day
+numbered-in : (y m d : ℕ) → 2000 ≤ y → y ≤ 2099 → 1 ≤ m → m ≤ 12 → 1 ≤ d → d ≤ monthLength y m → numberOf (date y m d) ≡ Some (firstDay y m + (d - 1))
+numbered-in y m d a b c e f g =
+    let r : Real (date y m d) = record { from-2000 = a; to-2100 = omega arith; from-January = c; to-December = e; from-first = f; to-last = g } in
+    let l = before-last (date y m d) r b in
+    has-number (date y m d) r (omega (arith, l))
+
+pub summer-first : (y : ℕ) → 2000 ≤ y → y ≤ 2099 → seasonFirst (summer y) ≡ Some (firstDay y 5 + 15)
+summer-first y a b = numbered-in y 5 16 a b (omega arith) (omega arith) (omega arith) (omega arith)
+
+pub summer-last : (y : ℕ) → 2000 ≤ y → y ≤ 2099 → seasonLast (summer y) ≡ Some (firstDay y 9 + 29)
+summer-last y a b = numbered-in y 9 30 a b (omega arith) (omega arith) (omega arith) (omega arith)
+
+pub winter-first : (y : ℕ) → 2000 ≤ y → y ≤ 2099 → seasonFirst (winter y) ≡ Some (firstDay y 12)
+winter-first y a b = numbered-in y 12 1 a b (omega arith) (omega arith) (omega arith) (omega arith) ∙ ap Some (omega arith)
+
+pub winter-last : (y : ℕ) → 1999 ≤ y → y ≤ 2098 → seasonLast (winter y) ≡ Some (firstDay (y + 1) 3 + 30)
+winter-last y a b = numbered-in (y + 1) 3 31 (omega arith) (omega arith) (omega arith) (omega arith) (omega arith) (omega arith)
+
+unnumbered : (d : Date) → begins (monthOf d) ≡ false → numberOf d ≡ None
+unnumbered d e = cond-false _ _ _ (and-left (begins (monthOf d)) _ e)
+
+-- a season that begins or ends on a day without a number
+pub summer-unnumbered : (y : ℕ) → (y < 2000) ⊎ (2099 < y) → (seasonFirst (summer y) ≡ None) × (seasonLast (summer y) ≡ None)
+summer-unnumbered y (inl l) = (unnumbered (date y 5 16) (grind (arith, tells)), unnumbered (date y 9 30) (grind (arith, tells)))
+summer-unnumbered y (inr g) = (unnumbered (date y 5 16) (grind (arith, tells)), unnumbered (date y 9 30) (grind (arith, tells)))
+
+pub winter-unbegun : (y : ℕ) → (y < 2000) ⊎ (2099 < y) → seasonFirst (winter y) ≡ None
+winter-unbegun y (inl l) = unnumbered (date y 12 1) (grind (arith, tells))
+winter-unbegun y (inr g) = unnumbered (date y 12 1) (grind (arith, tells))
+
+pub winter-unended : (y : ℕ) → (y < 1999) ⊎ (2098 < y) → seasonLast (winter y) ≡ None
+winter-unended y (inl l) = unnumbered (date (y + 1) 3 31) (grind (arith, tells))
+winter-unended y (inr g) = unnumbered (date (y + 1) 3 31) (grind (arith, tells))
+
+ordered-by : (k m : SeasonKind) (y z : ℕ) → rank (firstDate (record { kind = k; year = y })) ≤ rank (lastDate (record { kind = m; year = z })) → seasonIndex (record { kind = k; year = y }) ≤ seasonIndex (record { kind = m; year = z })
+ordered-by Summer Summer y z h = omega arith
+ordered-by Summer Winter y z h = omega arith
+ordered-by Winter Summer y z h = omega arith
+ordered-by Winter Winter y z h = omega arith
+
+-- a season that begins no later than another ends comes no later
+ordered : (s t : Season) → rank (firstDate s) ≤ rank (lastDate t) → seasonIndex s ≤ seasonIndex t
+ordered s t h = ordered-by (s .kind) (t .kind) (s .year) (t .year) h
+
+-- seasons never go back from day to day
+pub seasons-in-order : (n k : ℕ) (s t : Season) → n ≤ k → k ≤ lastDay → seasonOf (dateOf n) ≡ Some s → seasonOf (dateOf k) ≡ Some t → seasonIndex s ≤ seasonIndex t
+seasons-in-order n k s t h l e f =
+    let q = dateOf-real n (omega arith) in
+    let r = dateOf-real k l in
+    let a = spanned (dateOf n) (omega (arith, q .from-2000)) (q .from-first) (q .to-last) s e in
+    let b = spanned (dateOf k) (omega (arith, r .from-2000)) (r .from-first) (r .to-last) t f in
+    let o = dates-in-order n k h l in
+    ordered s t (omega (arith, a .from, o, b .to))
+
+-- the season to which a day's month is credited holds the day
+pub credited-holds : (d : Date) (s : Season) → creditedSeason (monthOf d) ≡ Some s → seasonOf d ≡ Some s
+credited-holds d s e = grind (arith, tells)
+
+credited-month : (m : CalendarMonth) (s : Season) → creditedSeason m ≡ Some s → (1 ≤ m .month) × (m .month ≤ 12)
+credited-month m s e = (grind (arith, tells), grind (arith, tells))
+
+credited-spans : (m : CalendarMonth) (s : Season) → 1 ≤ m .year → creditedSeason m ≡ Some s → Spanned s (date (m .year) (m .month) 1)
+credited-spans m s y e =
+    let d = date (m .year) (m .month) 1 in
+    let b = credited-month m s e in
+    let least = month-least (m .year) (m .month) (b .0) (b .1) in
+    spanned d y (omega arith) (omega (arith, least)) s (credited-holds d s e)
+
+-- nor from credited month to credited month
+pub credited-in-order : (i j : CalendarMonth) (s t : Season) → 1 ≤ i .year → monthIndex i ≤ monthIndex j → creditedSeason i ≡ Some s → creditedSeason j ≡ Some t → seasonIndex s ≤ seasonIndex t
+credited-in-order i j s t y h e f =
+    let p = credited-month i s e in
+    let q = credited-month j t f in
+    let a = credited-spans i s y e in
+    let b = credited-spans j t (omega (arith, p .0, q .1)) f in
+    ordered s t (omega (arith, a .from, b .to))

@@ -5,3 +5,4 @@ pub mod Dating
 pub mod Following
 pub mod Holding
 pub mod Numbering
+pub mod Standing
