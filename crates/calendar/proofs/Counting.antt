@@ -71,3 +71,48 @@ module _ (w : ℕ → ℕ) where
         let z : w (i + 1 + p .k) ≡ w (i + suc (p .k)) = ap w (omega arith) in
         record { k = suc (p .k); r = p .r; near = omega (arith, p .near); sum = omega (arith, p .sum); rest = omega (arith, z, p .rest) }
       ]
+
+-- a count of n from place i that has come to place p, with the rest still to count
+pub record Reached (w : ℕ → ℕ) (i n p rest : ℕ) : Type 0 where
+  pub from : i ≤ p
+  pub sum : total w i (p - i) + rest ≡ n
+
+module _ (w : ℕ → ℕ) (i n : ℕ) where
+  pub reached-none : Reached w i n i n
+  reached-none =
+      let z = ap (total w i) (let e : i - i ≡ 0 = omega arith in e) in
+      record { from = omega arith; sum = omega (arith, z) }
+
+  module _ (p rest : ℕ) (here : Reached w i n p rest) where
+    passed : total w i (p + 1 - i) ≡ total w i (p - i) + w p
+    passed =
+        let g = here .from in
+        let a : suc (p - i) ≡ p + 1 - i = omega arith in
+        let b : i + (p - i) ≡ p = omega arith in
+        sym (ap (total w i) a) ∙ total-last w i (p - i) ∙ ap (λ (x : ℕ). total w i (p - i) + w x) b
+
+    -- past one more place, which takes x
+    pub reached-more : (x : ℕ) → x ≡ w p → w p ≤ rest → Reached w i n (p + 1) (rest - x)
+    reached-more x is l =
+        let e = passed in
+        record { from = omega (arith, here .from); sum = omega (arith, e, here .sum) }
+
+    -- which is not yet the last of the places that take more than n
+    pub reached-inside : (m : ℕ) → w p ≤ rest → n < total w i m → p + 1 < i + m
+    reached-inside m l h =
+        let e = passed in
+        let f = total-fewer w i (p + 1 - i) m (omega (arith, e, here .sum)) in
+        omega (arith, f, here .from)
+
+    -- the count ends where the rest is less than the place takes
+    pub reached-all : (more : ℕ) → p ≤ i + more → rest < w p → (p, rest) ≡ locate w more i n
+    reached-all more h l =
+        let b : i + (p - i) ≡ p = omega (arith, here .from) in
+        let z = ap w b in
+        sym (lands w more i (p - i) n rest (omega (arith, here .from)) (omega (arith, here .sum)) (omega (arith, z)) ∙ pair-is b refl)
+
+    -- it is at one of the places that take more than n
+    pub reached-near : (m : ℕ) → n < total w i m → p < i + m
+    reached-near m h =
+        let f = total-fewer w i (p - i) m (omega (arith, here .sum)) in
+        omega (arith, f, here .from)
