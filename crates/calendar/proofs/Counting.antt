@@ -72,6 +72,13 @@ module _ (w : ℕ → ℕ) where
         record { k = suc (p .k); r = p .r; near = omega (arith, p .near); sum = omega (arith, p .sum); rest = omega (arith, z, p .rest) }
       ]
 
+-- the places from i up to p, and p itself
+pub total-more : (w : ℕ → ℕ) (i p : ℕ) → i ≤ p → total w i (p + 1 - i) ≡ total w i (p - i) + w p
+total-more w i p h =
+    let a : suc (p - i) ≡ p + 1 - i = omega arith in
+    let b : i + (p - i) ≡ p = omega arith in
+    sym (ap (total w i) a) ∙ total-last w i (p - i) ∙ ap (λ (x : ℕ). total w i (p - i) + w x) b
+
 -- a count of n from place i that has come to place p, with the rest still to count
 pub record Reached (w : ℕ → ℕ) (i n p rest : ℕ) : Type 0 where
   pub from : i ≤ p
@@ -85,11 +92,7 @@ module _ (w : ℕ → ℕ) (i n : ℕ) where
 
   module _ (p rest : ℕ) (here : Reached w i n p rest) where
     passed : total w i (p + 1 - i) ≡ total w i (p - i) + w p
-    passed =
-        let g = here .from in
-        let a : suc (p - i) ≡ p + 1 - i = omega arith in
-        let b : i + (p - i) ≡ p = omega arith in
-        sym (ap (total w i) a) ∙ total-last w i (p - i) ∙ ap (λ (x : ℕ). total w i (p - i) + w x) b
+    passed = total-more w i p (here .from)
 
     -- past one more place, which takes x
     pub reached-more : (x : ℕ) → x ≡ w p → w p ≤ rest → Reached w i n (p + 1) (rest - x)

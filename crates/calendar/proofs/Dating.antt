@@ -22,6 +22,9 @@ months-fill y = elim (cases-bool (leap y)) [ inl e ↦ rw e | inr e ↦ rw e ]
 pub year-least : (y : ℕ) → 365 ≤ yearLength y
 year-least y = cond-both (leap y) 366 365 (λ x. 365 ≤ x) (λ e. omega arith) (λ e. omega arith)
 
+pub year-most : (y : ℕ) → yearLength y ≤ 366
+year-most y = cond-both (leap y) 366 365 (λ x. x ≤ 366) (λ e. omega arith) (λ e. omega arith)
+
 pub february-least : (y : ℕ) → 28 ≤ cond (leap y) 29 28
 february-least y = cond-both (leap y) 29 28 (λ x. 28 ≤ x) (λ e. omega arith) (λ e. omega arith)
 

@@ -19,7 +19,8 @@ pub(crate) fn year_length(year: u32) -> u32
 
 // The days of a month; none where there is no such month.
 pub(crate) fn month_length(year: u32, month: u32) -> u32
-    ensures { λ r. ⌜ r ≡ monthLength year month ⌝ }
+    ensures value { λ r. ⌜ r ≡ monthLength year month ⌝ }
+    ensures bound { λ r. ⌜ r ≤ 31 ⌝ }
 {
     match month {
         2 => if is_leap(year) { 29 } else { 28 },

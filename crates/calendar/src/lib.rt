@@ -2,5 +2,6 @@
 pub mod date;
 pub mod laws;
 pub mod length;
+pub mod month;
 pub mod number;
 pub mod season;

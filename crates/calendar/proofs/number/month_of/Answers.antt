@@ -23,16 +23,16 @@ pub loop-rest-less : need.loop-rest-less
 loop-rest-less c =
     let h = near (c .args .year) (c .args .day) (c .loop-rest .month) (c .loop-rest .rest) (c .pre) (c .loop-rest .inv) in
     let g = month-least (c .args .year) (c .loop-rest .month) (c .loop-rest .inv .from) h in
-    omega (arith, g, c .month-length .ensures, c .loop-rest-test .taken, c .month-length-rest .ensures)
+    omega (arith, g, c .month-length .ensures .value, c .loop-rest-test .taken, c .month-length-rest .ensures .value)
 
 pub loop-rest-again : need.loop-rest-again
 loop-rest-again c =
-    let l : monthLength (c .args .year) (c .loop-rest .month) ≤ c .loop-rest .rest = omega (arith, c .month-length .ensures, c .loop-rest-test .taken) in
-    reached-more (monthLength (c .args .year)) 1 (c .args .day) (c .loop-rest .month) (c .loop-rest .rest) (c .loop-rest .inv) (c .month-length-rest .result) (c .month-length-rest .ensures) l
+    let l : monthLength (c .args .year) (c .loop-rest .month) ≤ c .loop-rest .rest = omega (arith, c .month-length .ensures .value, c .loop-rest-test .taken) in
+    reached-more (monthLength (c .args .year)) 1 (c .args .day) (c .loop-rest .month) (c .loop-rest .rest) (c .loop-rest .inv) (c .month-length-rest .result) (c .month-length-rest .ensures .value) l
 
 pub returns : need.returns
 returns c =
-    let l : c .loop-rest .rest < monthLength (c .args .year) (c .loop-rest .month) = omega (arith, c .month-length .ensures, c .loop-rest-test .left) in
+    let l : c .loop-rest .rest < monthLength (c .args .year) (c .loop-rest .month) = omega (arith, c .month-length .ensures .value, c .loop-rest-test .left) in
     let h = near (c .args .year) (c .args .day) (c .loop-rest .month) (c .loop-rest .rest) (c .pre) (c .loop-rest .inv) in
     let m = month-most (c .args .year) (c .loop-rest .month) in
     record {
