@@ -41,7 +41,7 @@ impl CalendarMonth {
     }
 
     // Whether the month's first day has a number: January 2100 too.
-    fn has_begun(&self) -> bool
+    pub(crate) fn has_begun(&self) -> bool
         ensures { λ r. ⌜ r ≡ begins (now (self .entry)) ⌝ }
     {
         self.is_counted() || self.year == 2100 && self.month == 1
@@ -55,7 +55,7 @@ impl CalendarMonth {
     }
 
     // The days from 1 January 2000 up to the month.
-    fn days_before(&self) -> u32
+    pub(crate) fn days_before(&self) -> u32
         requires year { ⌜ 2000 ≤ now self .year ⌝ ∗ ⌜ now self .year ≤ 2100 ⌝ }
         requires month { ⌜ 1 ≤ now self .month ⌝ ∗ ⌜ now self .month ≤ 12 ⌝ }
         ensures value { λ r. ⌜ r ≡ firstDay (now (self .entry) .year) (now (self .entry) .month) ⌝ }

@@ -1,7 +1,8 @@
 // The date of a day number, and the day number of a date.
 ghost use Prim.Native.Nat.{_+_, _-_, _≤_, _<_};
 ghost use mathlib.Core.Path.{_≡_};
-ghost use Rattle.calendar.specs.Dates.{yearLength, monthLength, locate, dated, numberOf};
+ghost use Rattle.calendar.specs.Dates.{yearLength, monthLength, locate, dated, monthOf, numberOf};
+use crate::date::CalendarMonth;
 use crate::date::Date;
 use crate::length::month_length;
 use crate::length::year_length;
@@ -49,4 +50,31 @@ pub fn date_of(day: u32) -> Option<Date>
     let (year, day_of_year) = year_of(day);
     let (month, day_of_month) = month_of(year, day_of_year);
     Some(Date { year, month, day: day_of_month + 1 })
+}
+
+impl Date {
+    // The date's calendar month.
+    pub fn calendar_month(&self) -> CalendarMonth
+        ensures { λ r. ⌜ r ≡ monthOf (now (self .entry)) ⌝ }
+    {
+        CalendarMonth { year: self.year, month: self.month }
+    }
+
+    // The number of the date; none where there is no such day, or it has no number.
+    pub fn day_number(&self) -> Option<u32>
+        ensures { λ r. ⌜ r ≡ numberOf (now (self .entry)) ⌝ }
+    {
+        let month = self.calendar_month();
+        if !month.has_begun() {
+            return None;
+        }
+        if self.day < 1 || self.day > month_length(self.year, self.month) {
+            return None;
+        }
+        let number = month.days_before() + (self.day - 1);
+        if number > LAST_DAY {
+            return None;
+        }
+        Some(number)
+    }
 }
