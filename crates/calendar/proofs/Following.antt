@@ -11,7 +11,7 @@ use Rattle.std.proofs.shelf.Tests.{lt-ltb, le-ltb, cases-lt, cond-true, cond-fa
 use Rattle.calendar.specs.declared.date.Date.{Date}
 use Rattle.calendar.specs.Dates.{yearLength, monthLength, total, date, dateOf, firstDay, dayNumber, monthOf, lastDay}
 use Rattle.calendar.specs.Laws.{Real, dayAfter, monthIndex}
-use Rattle.calendar.proofs.Counting.{total-last, total-grows, total-fewer}
+use Rattle.calendar.proofs.Counting.{total-last, total-more, total-fewer}
 use Rattle.calendar.proofs.Dating.{Count, count-of, count-date, date-at, dateOf-is, dateOf-real, dateOf-number, months-fill, month-least, month-most, same-date}
 
 -- the three ways on from a date
@@ -141,3 +141,14 @@ months-in-order n k h l =
     let r = dateOf-real k l in
     let most = month-most (dateOf k .year) (dateOf k .month) in
     omega (arith, o, r .to-last, most)
+
+-- each month begins where the one before it ends
+pub month-adjoins : (y m : ℕ) → 1 ≤ m → m < 12 → firstDay y (m + 1) ≡ firstDay y m + monthLength y m
+month-adjoins y m a b = let t = total-more (monthLength y) 1 m a in omega (arith, t)
+
+-- and each year where its December ends
+pub year-adjoins : (y : ℕ) → 2000 ≤ y → firstDay (y + 1) 1 ≡ firstDay y 12 + monthLength y 12
+year-adjoins y a =
+    let t = total-more yearLength 2000 y a in
+    let f = months-fill y in
+    omega (arith, t, f)

@@ -5,7 +5,7 @@ use mathlib.Core.Logic.{_⊎_, inl, inr}
 use mathlib.Core.Bool.{Bool, true, false, cond, _&&_, _||_}
 use native.Mathlib.Omega.{arith}
 use lib.Dec.{ltb, leb, eqb}
-use Rattle.std.proofs.shelf.Tests.{cases-lt, cond-true, cond-false, and-left}
+use Rattle.std.proofs.shelf.Tests.{cases-lt, cond-true, cond-false, and-left, and-parts, or-cases, eqb-true}
 use Rattle.std.proofs.shelf.Ways.{tells}
 use Rattle.std.specs.declared.option.Option.the-variants.{Some, None}
 use Rattle.calendar.specs.declared.date.Date.{Date}
@@ -14,11 +14,11 @@ use Rattle.calendar.specs.declared.season.Season.{Season}
 use Rattle.calendar.specs.declared.season.SeasonKind.{SeasonKind}
 use Rattle.calendar.specs.declared.season.SeasonKind.the-variants.{Summer, Winter}
 use Rattle.calendar.specs.Dates.{monthLength, firstDay, date, dateOf, monthOf, lastDay, begins, numberOf}
-use Rattle.calendar.specs.Seasons.{inSummer, inDecember, inLateWinter, summer, winter, seasonOf, firstDate, lastDate, seasonFirst, seasonLast, creditedSeason}
+use Rattle.calendar.specs.Seasons.{inSummer, inDecember, inLateWinter, summer, winter, seasonOf, opens, firstDateIn, firstDate, lastDate, seasonFirst, seasonLast, creditedSeason}
 use Rattle.calendar.specs.Laws.{Real, monthIndex, seasonIndex}
 use Rattle.calendar.proofs.Choosing.{Taken, taken}
-use Rattle.calendar.proofs.Dating.{month-most, month-least, dateOf-real, last-date}
-use Rattle.calendar.proofs.Numbering.{Known, known, before-last, has-number}
+use Rattle.calendar.proofs.Dating.{month-most, month-least, dateOf-real, last-date, same-date}
+use Rattle.calendar.proofs.Numbering.{Known, known, before-last, has-number, number-back}
 use Rattle.calendar.proofs.Following.{rank, dates-in-order, days-in-order}
 
 pub held : (d : Date) (s : Season) → seasonOf d ≡ Some s
@@ -213,6 +213,10 @@ seasons-in-order n k s t h l e f =
 pub credited-holds : (d : Date) (s : Season) → creditedSeason (monthOf d) ≡ Some s → seasonOf d ≡ Some s
 credited-holds d s e = grind (arith, tells)
 
+-- and outside May the season that holds a day is the one to which its month is credited
+pub held-credited : (d : Date) (s : Season) → seasonOf d ≡ Some s → (d .month ≡ 5 → ⊥) → creditedSeason (monthOf d) ≡ Some s
+held-credited d s e h = grind (arith, tells)
+
 credited-month : (m : CalendarMonth) (s : Season) → creditedSeason m ≡ Some s → (1 ≤ m .month) × (m .month ≤ 12)
 credited-month m s e = (grind (arith, tells), grind (arith, tells))
 
@@ -231,3 +235,30 @@ credited-in-order i j s t y h e f =
     let a = credited-spans i s y e in
     let b = credited-spans j t (omega (arith, p .0, q .1)) f in
     ordered s t (omega (arith, a .from, b .to))
+
+-- a day that opens a season is the first that the season holds
+pub opens-first : (n : ℕ) → n ≤ lastDay → opens (dateOf n) ≡ true → (s : Season) × (seasonOf (dateOf n) ≡ Some s) × (seasonFirst s ≡ Some n)
+opens-first n h e =
+    let d = dateOf n in
+    let back = number-back n h in
+    elim (or-cases (eqb (d .month) 5 && eqb (d .day) 16) (eqb (d .month) 12 && eqb (d .day) 1) e) [
+      inl t ↦
+        let p = and-parts (eqb (d .month) 5) _ t in
+        let is : date (d .year) 5 16 ≡ d = same-date refl (sym (eqb-true _ _ (p .0))) (sym (eqb-true _ _ (p .1))) in
+        (summer (d .year), ap seasonOf (sym is), ap numberOf is ∙ back)
+    | inr t ↦
+        let p = and-parts (eqb (d .month) 12) _ t in
+        let is : date (d .year) 12 1 ≡ d = same-date refl (sym (eqb-true _ _ (p .0))) (sym (eqb-true _ _ (p .1))) in
+        (winter (d .year), ap seasonOf (sym is), ap numberOf is ∙ back)
+    ]
+
+first-opens-by : (k : SeasonKind) (y : ℕ) → (opens (firstDateIn k y) ≡ true) × (seasonOf (firstDateIn k y) ≡ Some (record { kind = k; year = y }))
+first-opens-by Summer y = (refl, refl)
+first-opens-by Winter y = (refl, refl)
+
+-- the first day of a season opens it
+pub first-opens : (s : Season) (f : ℕ) → seasonFirst s ≡ Some f → (opens (dateOf f) ≡ true) × (seasonOf (dateOf f) ≡ Some s)
+first-opens s f e =
+    let b = known (firstDate s) f e .back in
+    let o = first-opens-by (s .kind) (s .year) in
+    (ap opens b ∙ o .0, ap seasonOf b ∙ o .1)

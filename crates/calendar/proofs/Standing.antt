@@ -1,9 +1,9 @@
 -- The laws of the calendar, each by its lemma.
 use Rattle.calendar.specs.Laws.{CalendarLaws, SeasonNumbers, SeasonHolds}
-use Rattle.calendar.proofs.Dating.{first-date, last-date, dateOf-real, held-by-month}
+use Rattle.calendar.proofs.Dating.{first-date, last-date, dateOf-real, dateOf-number, one-day, held-by-month}
 use Rattle.calendar.proofs.Numbering.{known, number-back}
-use Rattle.calendar.proofs.Following.{next-day, in-its-month, month-stays, month-turns, months-in-order}
-use Rattle.calendar.proofs.Holding.{summer-first, summer-last, winter-first, winter-last, summer-unnumbered, winter-unbegun, winter-unended, held-from, held-to, held-between, first-winter, last-winter, seasons-in-order, credited-holds, credited-in-order}
+use Rattle.calendar.proofs.Following.{next-day, in-its-month, month-stays, month-turns, month-adjoins, year-adjoins, months-in-order}
+use Rattle.calendar.proofs.Holding.{summer-first, summer-last, winter-first, winter-last, summer-unnumbered, winter-unbegun, winter-unended, held-from, held-to, held-between, first-winter, last-winter, opens-first, first-opens, seasons-in-order, credited-holds, held-credited, credited-in-order}
 
 pub season-numbers : SeasonNumbers
 season-numbers = record {
@@ -17,8 +17,8 @@ season-holds = record { from = held-from; to = held-to; between = held-between; 
 pub calendar-laws : CalendarLaws
 calendar-laws = record {
   ends = (first-date, last-date); next-day = next-day; real-dates = dateOf-real;
-  there-and-back = number-back; back-and-there = λ d n e. (known d n e .within, known d n e .back);
+  there-and-back = λ n h. (dateOf-number n h, number-back n h); back-and-there = λ d n e. (known d n e .within, known d n e .back); one-day = one-day;
   in-its-month = in-its-month; month-holds = held-by-month; month-stays = month-stays; month-turns = month-turns;
-  months-in-order = months-in-order; season-numbers = season-numbers; season-holds = season-holds;
-  seasons-in-order = seasons-in-order; credited-holds = credited-holds; credited-in-order = credited-in-order
+  months-adjoin = (month-adjoins, year-adjoins); months-in-order = months-in-order; season-numbers = season-numbers; season-holds = season-holds;
+  opening = (opens-first, first-opens); seasons-in-order = seasons-in-order; credited-holds = credited-holds; held-credited = held-credited; credited-in-order = credited-in-order
 }

@@ -1,7 +1,7 @@
 -- The laws of the calendar: what holds of the date of every day number, of its month and of its season.
 use Prim.Native.Nat.{ℕ, _+_, _-_, _*_, _≤_, _<_}
 use mathlib.Core.Path.{_≡_}
-use mathlib.Core.Bool.{cond}
+use mathlib.Core.Bool.{true, cond}
 use mathlib.Core.Logic.{_⊎_}
 use lib.Dec.{ltb}
 use Rattle.std.specs.declared.option.Option.the-variants.{Some, None}
@@ -11,7 +11,7 @@ use Rattle.calendar.specs.declared.season.Season.{Season}
 use Rattle.calendar.specs.declared.season.SeasonKind.{SeasonKind}
 use Rattle.calendar.specs.declared.season.SeasonKind.the-variants.{Summer, Winter}
 use Rattle.calendar.specs.Dates.{date, dateOf, dayNumber, numberOf, firstDay, monthLength, monthOf, lastDay}
-use Rattle.calendar.specs.Seasons.{seasonOf, summer, winter, seasonFirst, seasonLast, creditedSeason}
+use Rattle.calendar.specs.Seasons.{seasonOf, opens, summer, winter, seasonFirst, seasonLast, creditedSeason}
 
 -- a date that the calendar has
 pub record Real (d : Date) : Type 0 where
@@ -63,7 +63,11 @@ RealDates = (n : ℕ) → n ≤ lastDay → Real (dateOf n)
 
 -- the number of a day's date is the day's number
 abbrev pub ThereAndBack : Type 0
-ThereAndBack = (n : ℕ) → n ≤ lastDay → numberOf (dateOf n) ≡ Some n
+ThereAndBack = (n : ℕ) → n ≤ lastDay → (dayNumber (dateOf n) ≡ n) × (numberOf (dateOf n) ≡ Some n)
+
+-- so two days of one date are one day
+abbrev pub OneDay : Type 0
+OneDay = (n k : ℕ) → n ≤ lastDay → k ≤ lastDay → dateOf n ≡ dateOf k → n ≡ k
 
 -- the date of a date's number is that date
 abbrev pub BackAndThere : Type 0
@@ -87,6 +91,12 @@ MonthStays = (n : ℕ) → n < lastDay → n + 1 < firstOf n + lengthAt n → mo
 abbrev pub MonthTurns : Type 0
 MonthTurns = (n : ℕ) → n < lastDay → n + 1 ≡ firstOf n + lengthAt n → indexAt (n + 1) ≡ indexAt n + 1
 
+-- each month begins where the one before it ends, and each year too
+abbrev pub MonthsAdjoin : Type 0
+MonthsAdjoin =
+    ((y m : ℕ) → 1 ≤ m → m < 12 → firstDay y (m + 1) ≡ firstDay y m + monthLength y m)
+    × ((y : ℕ) → 2000 ≤ y → firstDay (y + 1) 1 ≡ firstDay y 12 + monthLength y 12)
+
 abbrev pub MonthsInOrder : Type 0
 MonthsInOrder = (n k : ℕ) → n ≤ k → k ≤ lastDay → indexAt n ≤ indexAt k
 
@@ -108,6 +118,12 @@ pub record SeasonHolds : Type 0 where
   pub first-winter : (n l : ℕ) → seasonLast (winter 1999) ≡ Some l → n ≤ l → seasonOf (dateOf n) ≡ Some (winter 1999)
   pub last-winter : (n f : ℕ) → seasonFirst (winter 2099) ≡ Some f → f ≤ n → n ≤ lastDay → seasonOf (dateOf n) ≡ Some (winter 2099)
 
+-- a day opens a season where it is the first that the season holds
+abbrev pub Opening : Type 0
+Opening =
+    ((n : ℕ) → n ≤ lastDay → opens (dateOf n) ≡ true → (s : Season) × (seasonOf (dateOf n) ≡ Some s) × (seasonFirst s ≡ Some n))
+    × ((s : Season) (f : ℕ) → seasonFirst s ≡ Some f → (opens (dateOf f) ≡ true) × (seasonOf (dateOf f) ≡ Some s))
+
 abbrev pub SeasonsInOrder : Type 0
 SeasonsInOrder =
     (n k : ℕ) (s t : Season) → n ≤ k → k ≤ lastDay → seasonOf (dateOf n) ≡ Some s → seasonOf (dateOf k) ≡ Some t → seasonIndex s ≤ seasonIndex t
@@ -115,6 +131,10 @@ SeasonsInOrder =
 -- the season to which a day's month is credited holds the day
 abbrev pub CreditedHolds : Type 0
 CreditedHolds = (d : Date) (s : Season) → creditedSeason (monthOf d) ≡ Some s → seasonOf d ≡ Some s
+
+-- and outside May a day's season is the one to which its month is credited
+abbrev pub HeldCredited : Type 0
+HeldCredited = (d : Date) (s : Season) → seasonOf d ≡ Some s → (d .month ≡ 5 → ⊥) → creditedSeason (monthOf d) ≡ Some s
 
 abbrev pub CreditedInOrder : Type 0
 CreditedInOrder =
@@ -128,13 +148,17 @@ pub record CalendarLaws : Type 0 where
   pub real-dates : RealDates
   pub there-and-back : ThereAndBack
   pub back-and-there : BackAndThere
+  pub one-day : OneDay
   pub in-its-month : InItsMonth
   pub month-holds : MonthHolds
   pub month-stays : MonthStays
   pub month-turns : MonthTurns
+  pub months-adjoin : MonthsAdjoin
   pub months-in-order : MonthsInOrder
   pub season-numbers : SeasonNumbers
   pub season-holds : SeasonHolds
+  pub opening : Opening
   pub seasons-in-order : SeasonsInOrder
   pub credited-holds : CreditedHolds
+  pub held-credited : HeldCredited
   pub credited-in-order : CreditedInOrder
