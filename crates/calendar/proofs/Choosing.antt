@@ -27,6 +27,6 @@ taken false false true x y z s e = inr (inr (record { so = refl; same = some-is 
 taken false false false x y z s e = absurd (none-some e)
 
 -- one test, and none
-pub given : (p : Bool) (x n : ℕ) → cond p (Some x) None ≡ Some n → Taken p x n
-given true x n e = record { so = refl; same = some-is e }
-given false x n e = absurd (none-some e)
+pub given : {X : Type 0} (p : Bool) (x s : X) → cond p (Some x) None ≡ Some s → Taken p x s
+given true x s e = record { so = refl; same = some-is e }
+given false x s e = absurd (none-some e)

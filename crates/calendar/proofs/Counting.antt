@@ -39,8 +39,8 @@ module _ (w : ℕ → ℕ) where
   pub total-fewer : (i j k : ℕ) → total w i j < total w i k → j < k
   total-fewer i j k h =
       elim (cases-lt j k) [
-        inl l ↦ l
-      | inr g ↦ absurd (let p = total-grows i k j g in omega (arith, p))
+        | inl l ↦ l
+        | inr g ↦ absurd (let p = total-grows i k j g in omega (arith, p))
       ]
 
   -- a count that passes k whole places and leaves r in the next lands there
@@ -65,11 +65,11 @@ module _ (w : ℕ → ℕ) where
       record { k = 0; r = n; near = omega arith; sum = omega arith; rest = omega (arith, z) }
   placed (suc more) i n h =
       elim (cases-lt n (w i)) [
-        inl l ↦ let z = ap w (add-zero i) in record { k = 0; r = n; near = omega arith; sum = omega arith; rest = omega (arith, z) }
-      | inr g ↦
-        let p = placed more (i + 1) (n - w i) (omega arith) in
-        let z : w (i + 1 + p .k) ≡ w (i + suc (p .k)) = ap w (omega arith) in
-        record { k = suc (p .k); r = p .r; near = omega (arith, p .near); sum = omega (arith, p .sum); rest = omega (arith, z, p .rest) }
+        | inl l ↦ let z = ap w (add-zero i) in record { k = 0; r = n; near = omega arith; sum = omega arith; rest = omega (arith, z) }
+        | inr g ↦
+            let p = placed more (i + 1) (n - w i) (omega arith) in
+            let z : w (i + 1 + p .k) ≡ w (i + suc (p .k)) = ap w (omega arith) in
+            record { k = suc (p .k); r = p .r; near = omega (arith, p .near); sum = omega (arith, p .sum); rest = omega (arith, z, p .rest) }
       ]
 
 -- the places from i up to p, and p itself

@@ -73,8 +73,13 @@ count-of n h =
     let f = months-fill (2000 + a .k) in
     let b = placed (monthLength (2000 + a .k)) 11 1 (a .r) (omega (arith, a .rest, f)) in
     record {
-      k = a .k; j = b .k; q = b .r; years = a .near; months = b .near; days = b .rest;
-      sum = omega (arith, a .sum, b .sum)
+      k = a .k;
+      j = b .k;
+      q = b .r;
+      years = a .near;
+      months = b .near;
+      days = b .rest;
+      sum = omega (arith, a .sum, b .sum);
     }
 
 pub count-date : (n : ℕ) (c : Count n) → dateOf n ≡ date (2000 + c .k) (1 + c .j) (c .q + 1)
@@ -91,7 +96,7 @@ dateOf-is d real =
     let we : monthLength (2000 + k) (1 + j) ≡ monthLength (d .year) (d .month) = ap (λ (y : ℕ). monthLength y (1 + j)) ye ∙ ap (monthLength (d .year)) me in
     let te : total (monthLength (2000 + k)) 1 j ≡ total (monthLength (d .year)) 1 j = ap (λ (y : ℕ). total (monthLength y) 1 j) ye in
     let at = date-at (dayNumber d) k j (d .day - 1) (omega (arith, real .to-2100)) (omega (arith, real .to-December))
-        (omega (arith, we, real .to-last, real .from-first)) (omega (arith, te)) in
+    (omega (arith, we, real .to-last, real .from-first)) (omega (arith, te)) in
     at ∙ same-date ye me de
 
 -- each day's date is real
@@ -99,8 +104,12 @@ pub dateOf-real : (n : ℕ) → n ≤ lastDay → Real (dateOf n)
 dateOf-real n h =
     let c = count-of n h in
     rw (count-date n c) (record {
-      from-2000 = omega arith; to-2100 = omega (arith, c .years); from-January = omega arith;
-      to-December = omega (arith, c .months); from-first = omega arith; to-last = omega (arith, c .days)
+      from-2000 = omega arith;
+      to-2100 = omega (arith, c .years);
+      from-January = omega arith;
+      to-December = omega (arith, c .months);
+      from-first = omega arith;
+      to-last = omega (arith, c .days);
     })
 
 -- the number of a day's date is the day's

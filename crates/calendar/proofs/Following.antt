@@ -8,11 +8,15 @@ use native.Mathlib.Numerals.{add-one}
 use native.Mathlib.Decide.{le-ind}
 use lib.Dec.{ltb}
 use Rattle.std.proofs.shelf.Tests.{lt-ltb, le-ltb, cases-lt, cond-true, cond-false}
+use Rattle.std.proofs.shelf.Ways.{tells}
+use Rattle.std.specs.declared.option.Option.the-variants.{Some, None}
 use Rattle.calendar.specs.declared.date.Date.{Date}
-use Rattle.calendar.specs.Dates.{yearLength, monthLength, total, date, dateOf, firstDay, dayNumber, monthOf, lastDay}
+use Rattle.calendar.specs.declared.date.CalendarMonth.{CalendarMonth}
+use Rattle.calendar.specs.Dates.{yearLength, monthLength, total, date, dateOf, firstDay, dayNumber, monthOf, counted, firstCounted, firstDayOf, lastDayOf, lastDay}
 use Rattle.calendar.specs.Laws.{Real, dayAfter, monthIndex}
+use Rattle.calendar.proofs.Choosing.{Taken, given}
 use Rattle.calendar.proofs.Counting.{total-last, total-more, total-fewer}
-use Rattle.calendar.proofs.Dating.{Count, count-of, count-date, date-at, dateOf-is, dateOf-real, dateOf-number, months-fill, month-least, month-most, same-date}
+use Rattle.calendar.proofs.Dating.{Count, count-of, count-date, date-at, dateOf-is, dateOf-real, dateOf-number, months-fill, month-least, month-most, same-date, held-by-month}
 
 -- the three ways on from a date
 pub after-in-month : (d : Date) → d .day < monthLength (d .year) (d .month) → dayAfter d ≡ date (d .year) (d .month) (d .day + 1)
@@ -54,8 +58,8 @@ module _ (n : ℕ) (c : Count n) where
   counted-next : n < lastDay → dateOf (n + 1) ≡ dayAfter (date (2000 + c .k) (1 + c .j) (c .q + 1))
   counted-next h =
       elim (cases-lt (c .q + 1) (monthLength (2000 + c .k) (1 + c .j))) [
-        inl l ↦ in-month l
-      | inr g ↦ elim (cases-lt (c .j) 11) [ inl l ↦ in-year g l | inr e ↦ in-next-year h g e ]
+        | inl l ↦ in-month l
+        | inr g ↦ elim (cases-lt (c .j) 11) [ inl l ↦ in-year g l | inr e ↦ in-next-year h g e ]
       ]
 
 -- the date of the next day is the day after
@@ -75,8 +79,8 @@ month-stays n h l =
 pub after-month-index : (d : Date) → Real d → monthLength (d .year) (d .month) ≤ d .day → monthIndex (monthOf (dayAfter d)) ≡ monthIndex (monthOf d) + 1
 after-month-index d r g =
     elim (cases-lt (d .month) 12) [
-      inl l ↦ ap (λ (x : Date). monthIndex (monthOf x)) (after-in-year d g l) ∙ omega arith
-    | inr e ↦ ap (λ (x : Date). monthIndex (monthOf x)) (after-year d g e) ∙ omega (arith, r .to-December)
+      | inl l ↦ ap (λ (x : Date). monthIndex (monthOf x)) (after-in-year d g l) ∙ omega arith
+      | inr e ↦ ap (λ (x : Date). monthIndex (monthOf x)) (after-year d g e) ∙ omega (arith, r .to-December)
     ]
 
 pub month-turns : (n : ℕ) → n < lastDay → n + 1 ≡ firstDay (dateOf n .year) (dateOf n .month) + monthLength (dateOf n .year) (dateOf n .month) → monthIndex (monthOf (dateOf (n + 1))) ≡ monthIndex (monthOf (dateOf n)) + 1
@@ -100,12 +104,12 @@ pub after-rank : (d : Date) → Real d → rank d < rank (dayAfter d)
 after-rank d r =
     let most = month-most (d .year) (d .month) in
     elim (cases-lt (d .day) (monthLength (d .year) (d .month))) [
-      inl l ↦ rw (after-in-month d l) (omega arith)
-    | inr g ↦
-      elim (cases-lt (d .month) 12) [
-        inl l ↦ rw (after-in-year d g l) (omega (arith, r .to-last, most))
-      | inr e ↦ rw (after-year d g e) (omega (arith, r .to-last, r .to-December, most))
-      ]
+      | inl l ↦ rw (after-in-month d l) (omega arith)
+      | inr g ↦
+          elim (cases-lt (d .month) 12) [
+            | inl l ↦ rw (after-in-year d g l) (omega (arith, r .to-last, most))
+            | inr e ↦ rw (after-year d g e) (omega (arith, r .to-last, r .to-December, most))
+          ]
     ]
 
 pub rank-step : (n : ℕ) → n < lastDay → rank (dateOf n) < rank (dateOf (n + 1))
@@ -117,21 +121,21 @@ dates-in-order n k h =
     le-ind (λ (m : ℕ). m ≤ lastDay → rank (dateOf n) ≤ rank (dateOf m))
     (λ _. omega arith)
     (λ m g before l.
-      let s = rank-step m (omega arith) in
-      let b = before (omega arith) in
-      let e = ap (λ (x : ℕ). rank (dateOf x)) (add-one m) in
-      omega (arith, s, b, e))
+    let s = rank-step m (omega arith) in
+    let b = before (omega arith) in
+    let e = ap (λ (x : ℕ). rank (dateOf x)) (add-one m) in
+    omega (arith, s, b, e))
     k h
 
 -- and later dates are of later days
 pub days-in-order : (n k : ℕ) → n ≤ lastDay → rank (dateOf n) ≤ rank (dateOf k) → n ≤ k
 days-in-order n k h l =
     elim (cases-lt k n) [
-      inl g ↦
-        let s = rank-step k (omega arith) in
-        let b = dates-in-order (k + 1) n (omega arith) h in
-        absurd (omega (arith, s, b))
-    | inr e ↦ e
+      | inl g ↦
+          let s = rank-step k (omega arith) in
+          let b = dates-in-order (k + 1) n (omega arith) h in
+          absurd (omega (arith, s, b))
+      | inr e ↦ e
     ]
 
 -- months never go back
@@ -152,3 +156,42 @@ year-adjoins y a =
     let t = total-more yearLength 2000 y a in
     let f = months-fill y in
     omega (arith, t, f)
+
+-- a month that answers a last day: a month of the years 2000 to 2099
+pub record Whole (m : CalendarMonth) (f l : ℕ) : Type 0 where
+  pub from-2000 : 2000 ≤ m .year
+  pub to-2099 : m .year ≤ 2099
+  pub from-January : 1 ≤ m .month
+  pub to-December : m .month ≤ 12
+  pub first : f ≡ firstDay (m .year) (m .month)
+  pub last : l + 1 ≡ firstDay (m .year) (m .month) + monthLength (m .year) (m .month)
+
+pub whole : (m : CalendarMonth) (f l : ℕ) → firstDayOf m ≡ Some f → lastDayOf m ≡ Some l → Whole m f l
+whole m f l a b =
+    let t = given (firstCounted m) (firstDay (m .year) (m .month)) f a in
+    let u = given (counted m) (firstDay (m .year) (m .month) + monthLength (m .year) (m .month) - 1) l b in
+    let c = u .so in
+    let low : 1 ≤ m .month = grind (arith, tells) in
+    let high : m .month ≤ 12 = grind (arith, tells) in
+    let least = month-least (m .year) (m .month) low high in
+    record {
+      from-2000 = grind (arith, tells);
+      to-2099 = grind (arith, tells);
+      from-January = low;
+      to-December = high;
+      first = sym (t .same);
+      last = omega (arith, u .same, least);
+    }
+
+-- its days are those from its first day to its last
+pub month-days : (m : CalendarMonth) (f l n : ℕ) → firstDayOf m ≡ Some f → lastDayOf m ≡ Some l
+    → (n ≤ lastDay → monthOf (dateOf n) ≡ m → (f ≤ n) × (n ≤ l)) × (f ≤ n → n ≤ l → monthOf (dateOf n) ≡ m)
+month-days m f l n a b =
+    let w = whole m f l a b in (
+      (λ h e.
+          let i = in-its-month n h in
+          let x = ap (λ (k : CalendarMonth). firstDay (k .year) (k .month)) e in
+          let y = ap (λ (k : CalendarMonth). monthLength (k .year) (k .month)) e in
+          (omega (arith, i, x, w .first), omega (arith, i, x, y, w .last))),
+      λ g h. ap monthOf (held-by-month n (m .year) (m .month) (w .from-2000) (omega (arith, w .to-2099)) (w .from-January) (w .to-December) (omega (arith, w .first)) (omega (arith, w .last))),
+    )

@@ -13,7 +13,7 @@ use Rattle.calendar.specs.declared.date.CalendarMonth.{CalendarMonth}
 use Rattle.calendar.specs.declared.season.Season.{Season}
 use Rattle.calendar.specs.declared.season.SeasonKind.{SeasonKind}
 use Rattle.calendar.specs.declared.season.SeasonKind.the-variants.{Summer, Winter}
-use Rattle.calendar.specs.Dates.{monthLength, firstDay, date, dateOf, monthOf, lastDay, begins, numberOf}
+use Rattle.calendar.specs.Dates.{monthLength, firstDay, date, dateOf, monthOf, lastDay, firstCounted, numberOf}
 use Rattle.calendar.specs.Seasons.{inSummer, inDecember, inLateWinter, summer, winter, seasonOf, opens, firstDateIn, firstDate, lastDate, seasonFirst, seasonLast, creditedSeason}
 use Rattle.calendar.specs.Laws.{Real, monthIndex, seasonIndex}
 use Rattle.calendar.proofs.Choosing.{Taken, taken}
@@ -42,9 +42,9 @@ module _ (d : Date) (year : 1 ≤ d .year) (first : 1 ≤ d .day) (last : d .day
       record {
         from = omega (arith, low);
         to = elim (cases-lt (d .month) 9) [
-          inl l ↦ omega (arith, most, last)
-        | inr e ↦ let s = september (d .year) (d .month) (omega (arith, high)) in omega (arith, high, s, last)
-        ]
+          | inl l ↦ omega (arith, most, last)
+          | inr e ↦ let s = september (d .year) (d .month) (omega (arith, high)) in omega (arith, high, s, last)
+        ];
       }
 
   december-spans : inDecember d ≡ true → Spanned (winter (d .year)) d
@@ -63,9 +63,9 @@ module _ (d : Date) (year : 1 ≤ d .year) (first : 1 ≤ d .day) (last : d .day
   pub spanned : (s : Season) → seasonOf d ≡ Some s → Spanned s d
   spanned s e =
       elim (held d s e) [
-        inl t ↦ subst (λ (x : Season). Spanned x d) (t .same) (summer-spans (t .so))
-      | inr (inl t) ↦ subst (λ (x : Season). Spanned x d) (t .same) (december-spans (t .so))
-      | inr (inr t) ↦ subst (λ (x : Season). Spanned x d) (t .same) (late-winter-spans (t .so))
+        | inl t ↦ subst (λ (x : Season). Spanned x d) (t .same) (summer-spans (t .so))
+        | inr (inl t) ↦ subst (λ (x : Season). Spanned x d) (t .same) (december-spans (t .so))
+        | inr (inr t) ↦ subst (λ (x : Season). Spanned x d) (t .same) (late-winter-spans (t .so))
       ]
 
 -- and the dates between them are held by it
@@ -82,19 +82,19 @@ winter-holds d y r p =
     let low = p .from in
     let high = p .to in
     elim (cases-lt (d .month) 4) [
-      inl l ↦
-        let same : d .year - 1 ≡ y = omega (arith, low, high, r .from-2000, r .to-last, r .from-January, most) in
-        let one = r .from-January in
-        let s : inSummer d ≡ false = grind (arith, tells) in
-        let t : inDecember d ≡ false = grind (arith, tells) in
-        let u : inLateWinter d ≡ true = grind (arith, tells) in
-        cond-false _ _ _ s ∙ cond-false _ _ _ t ∙ cond-true _ _ _ u ∙ ap (λ (x : ℕ). Some (winter x)) same
-    | inr g ↦
-        let is : d .month ≡ 12 = omega (arith, low, high, r .to-December, r .to-last, r .from-first, most) in
-        let same : d .year ≡ y = omega (arith, low, high, is, r .to-last, r .from-first, most) in
-        let s : inSummer d ≡ false = grind (arith, tells) in
-        let t : inDecember d ≡ true = grind (arith, tells) in
-        cond-false _ _ _ s ∙ cond-true _ _ _ t ∙ ap (λ (x : ℕ). Some (winter x)) same
+      | inl l ↦
+          let same : d .year - 1 ≡ y = omega (arith, low, high, r .from-2000, r .to-last, r .from-January, most) in
+          let one = r .from-January in
+          let s : inSummer d ≡ false = grind (arith, tells) in
+          let t : inDecember d ≡ false = grind (arith, tells) in
+          let u : inLateWinter d ≡ true = grind (arith, tells) in
+          cond-false _ _ _ s ∙ cond-false _ _ _ t ∙ cond-true _ _ _ u ∙ ap (λ (x : ℕ). Some (winter x)) same
+      | inr g ↦
+          let is : d .month ≡ 12 = omega (arith, low, high, r .to-December, r .to-last, r .from-first, most) in
+          let same : d .year ≡ y = omega (arith, low, high, is, r .to-last, r .from-first, most) in
+          let s : inSummer d ≡ false = grind (arith, tells) in
+          let t : inDecember d ≡ true = grind (arith, tells) in
+          cond-false _ _ _ s ∙ cond-true _ _ _ t ∙ ap (λ (x : ℕ). Some (winter x)) same
     ]
 
 holds-by : (k : SeasonKind) (y : ℕ) (d : Date) → Real d → Spanned (record { kind = k; year = y }) d → seasonOf d ≡ Some (record { kind = k; year = y })
@@ -173,8 +173,8 @@ winter-first y a b = numbered-in y 12 1 a b (omega arith) (omega arith) (omega a
 pub winter-last : (y : ℕ) → 1999 ≤ y → y ≤ 2098 → seasonLast (winter y) ≡ Some (firstDay (y + 1) 3 + 30)
 winter-last y a b = numbered-in (y + 1) 3 31 (omega arith) (omega arith) (omega arith) (omega arith) (omega arith) (omega arith)
 
-unnumbered : (d : Date) → begins (monthOf d) ≡ false → numberOf d ≡ None
-unnumbered d e = cond-false _ _ _ (and-left (begins (monthOf d)) _ e)
+unnumbered : (d : Date) → firstCounted (monthOf d) ≡ false → numberOf d ≡ None
+unnumbered d e = cond-false _ _ _ (and-left (firstCounted (monthOf d)) _ e)
 
 -- a season that begins or ends on a day without a number
 pub summer-unnumbered : (y : ℕ) → (y < 2000) ⊎ (2099 < y) → (seasonFirst (summer y) ≡ None) × (seasonLast (summer y) ≡ None)
@@ -242,14 +242,14 @@ opens-first n h e =
     let d = dateOf n in
     let back = number-back n h in
     elim (or-cases (eqb (d .month) 5 && eqb (d .day) 16) (eqb (d .month) 12 && eqb (d .day) 1) e) [
-      inl t ↦
-        let p = and-parts (eqb (d .month) 5) _ t in
-        let is : date (d .year) 5 16 ≡ d = same-date refl (sym (eqb-true _ _ (p .0))) (sym (eqb-true _ _ (p .1))) in
-        (summer (d .year), ap seasonOf (sym is), ap numberOf is ∙ back)
-    | inr t ↦
-        let p = and-parts (eqb (d .month) 12) _ t in
-        let is : date (d .year) 12 1 ≡ d = same-date refl (sym (eqb-true _ _ (p .0))) (sym (eqb-true _ _ (p .1))) in
-        (winter (d .year), ap seasonOf (sym is), ap numberOf is ∙ back)
+      | inl t ↦
+          let p = and-parts (eqb (d .month) 5) _ t in
+          let is : date (d .year) 5 16 ≡ d = same-date refl (sym (eqb-true _ _ (p .0))) (sym (eqb-true _ _ (p .1))) in
+          (summer (d .year), ap seasonOf (sym is), ap numberOf is ∙ back)
+      | inr t ↦
+          let p = and-parts (eqb (d .month) 12) _ t in
+          let is : date (d .year) 12 1 ≡ d = same-date refl (sym (eqb-true _ _ (p .0))) (sym (eqb-true _ _ (p .1))) in
+          (winter (d .year), ap seasonOf (sym is), ap numberOf is ∙ back)
     ]
 
 first-opens-by : (k : SeasonKind) (y : ℕ) → (opens (firstDateIn k y) ≡ true) × (seasonOf (firstDateIn k y) ≡ Some (record { kind = k; year = y }))

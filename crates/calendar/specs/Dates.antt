@@ -76,14 +76,14 @@ abbrev pub counted : CalendarMonth → Bool
 counted m = leb 2000 (m .year) && (leb (m .year) 2099 && isMonth (m .month))
 
 -- a month whose first day has a number: January 2100 too
-abbrev pub begins : CalendarMonth → Bool
-begins m = counted m || (eqb (m .year) 2100 && eqb (m .month) 1)
+abbrev pub firstCounted : CalendarMonth → Bool
+firstCounted m = counted m || (eqb (m .year) 2100 && eqb (m .month) 1)
 
 abbrev pub lengthOf : CalendarMonth → Option ℕ
 lengthOf m = cond (counted m) (Some (monthLength (m .year) (m .month))) None
 
 abbrev pub firstDayOf : CalendarMonth → Option ℕ
-firstDayOf m = cond (begins m) (Some (firstDay (m .year) (m .month))) None
+firstDayOf m = cond (firstCounted m) (Some (firstDay (m .year) (m .month))) None
 
 abbrev pub lastDayOf : CalendarMonth → Option ℕ
 lastDayOf m = cond (counted m) (Some (firstDay (m .year) (m .month) + monthLength (m .year) (m .month) - 1)) None
@@ -91,7 +91,7 @@ lastDayOf m = cond (counted m) (Some (firstDay (m .year) (m .month) + monthLengt
 -- a date of the calendar, from 1 January 2000 to 1 January 2100
 abbrev pub numbered : Date → Bool
 numbered d =
-    begins (monthOf d) && (leb 1 (d .day) && (leb (d .day) (monthLength (d .year) (d .month)) && leb (dayNumber d) lastDay))
+    firstCounted (monthOf d) && (leb 1 (d .day) && (leb (d .day) (monthLength (d .year) (d .month)) && leb (dayNumber d) lastDay))
 
 -- the number of a date; none where there is no such day or it has no number
 abbrev pub numberOf : Date → Option ℕ

@@ -10,7 +10,7 @@ use Rattle.calendar.specs.declared.date.CalendarMonth.{CalendarMonth}
 use Rattle.calendar.specs.declared.season.Season.{Season}
 use Rattle.calendar.specs.declared.season.SeasonKind.{SeasonKind}
 use Rattle.calendar.specs.declared.season.SeasonKind.the-variants.{Summer, Winter}
-use Rattle.calendar.specs.Dates.{date, dateOf, dayNumber, numberOf, firstDay, monthLength, monthOf, lastDay}
+use Rattle.calendar.specs.Dates.{date, dateOf, dayNumber, numberOf, firstDay, monthLength, monthOf, firstDayOf, lastDayOf, lastDay}
 use Rattle.calendar.specs.Seasons.{seasonOf, opens, summer, winter, seasonFirst, seasonLast, creditedSeason}
 
 -- a date that the calendar has
@@ -83,6 +83,12 @@ MonthHolds =
     (n y m : ℕ) → 2000 ≤ y → y ≤ 2100 → 1 ≤ m → m ≤ 12 → firstDay y m ≤ n → n < firstDay y m + monthLength y m
     → dateOf n ≡ date y m (n - firstDay y m + 1)
 
+-- the same by the numbers that a month answers: its days are those from its first day to its last
+abbrev pub MonthDays : Type 0
+MonthDays =
+    (m : CalendarMonth) (f l n : ℕ) → firstDayOf m ≡ Some f → lastDayOf m ≡ Some l
+    → (n ≤ lastDay → monthOf (dateOf n) ≡ m → (f ≤ n) × (n ≤ l)) × (f ≤ n → n ≤ l → monthOf (dateOf n) ≡ m)
+
 -- before a month's last day the next day is in the same month
 abbrev pub MonthStays : Type 0
 MonthStays = (n : ℕ) → n < lastDay → n + 1 < firstOf n + lengthAt n → monthOf (dateOf (n + 1)) ≡ monthOf (dateOf n)
@@ -151,6 +157,7 @@ pub record CalendarLaws : Type 0 where
   pub one-day : OneDay
   pub in-its-month : InItsMonth
   pub month-holds : MonthHolds
+  pub month-days : MonthDays
   pub month-stays : MonthStays
   pub month-turns : MonthTurns
   pub months-adjoin : MonthsAdjoin

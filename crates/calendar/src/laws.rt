@@ -7,8 +7,7 @@ use crate::number;
 // Every day number has its date, its month and its season as the laws say.
 fn laws_stand()
     ensures { λ _. ⌜ CalendarLaws ⌝ }
-{
-}
+{}
 
 // The last day with a number, 1 January 2100. The laws of the calendar hold up to it.
 pub fn last_day_number() -> u32

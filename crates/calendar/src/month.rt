@@ -1,7 +1,7 @@
 // The days of a calendar month: how many, and the numbers of its first and last.
 ghost use Prim.Native.Nat.{_+_, _-_, _≤_};
 ghost use mathlib.Core.Path.{_≡_};
-ghost use Rattle.calendar.specs.Dates.{yearLength, monthLength, total, counted, begins, firstDay, lengthOf, firstDayOf, lastDayOf};
+ghost use Rattle.calendar.specs.Dates.{yearLength, monthLength, total, counted, firstCounted, firstDay, lengthOf, firstDayOf, lastDayOf};
 use crate::date::CalendarMonth;
 use crate::length::month_length;
 use crate::length::year_length;
@@ -41,8 +41,8 @@ impl CalendarMonth {
     }
 
     // Whether the month's first day has a number: January 2100 too.
-    pub(crate) fn has_begun(&self) -> bool
-        ensures { λ r. ⌜ r ≡ begins (now (self .entry)) ⌝ }
+    pub(crate) fn first_is_counted(&self) -> bool
+        ensures { λ r. ⌜ r ≡ firstCounted (now (self .entry)) ⌝ }
     {
         self.is_counted() || self.year == 2100 && self.month == 1
     }
@@ -51,7 +51,11 @@ impl CalendarMonth {
     pub fn length(&self) -> Option<u32>
         ensures { λ r. ⌜ r ≡ lengthOf (now (self .entry)) ⌝ }
     {
-        if self.is_counted() { Some(month_length(self.year, self.month)) } else { None }
+        if self.is_counted() {
+            Some(month_length(self.year, self.month))
+        } else {
+            None
+        }
     }
 
     // The days from 1 January 2000 up to the month.
@@ -68,7 +72,11 @@ impl CalendarMonth {
     pub fn first_day(&self) -> Option<u32>
         ensures { λ r. ⌜ r ≡ firstDayOf (now (self .entry)) ⌝ }
     {
-        if self.has_begun() { Some(self.days_before()) } else { None }
+        if self.first_is_counted() {
+            Some(self.days_before())
+        } else {
+            None
+        }
     }
 
     // The number of the month's last day; none outside the years 2000 to 2099.

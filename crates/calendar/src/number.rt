@@ -49,7 +49,11 @@ pub fn date_of(day: u32) -> Option<Date>
     }
     let (year, day_of_year) = year_of(day);
     let (month, day_of_month) = month_of(year, day_of_year);
-    Some(Date { year, month, day: day_of_month + 1 })
+    Some(Date {
+        year,
+        month,
+        day: day_of_month + 1,
+    })
 }
 
 impl Date {
@@ -57,7 +61,10 @@ impl Date {
     pub fn calendar_month(&self) -> CalendarMonth
         ensures { λ r. ⌜ r ≡ monthOf (now (self .entry)) ⌝ }
     {
-        CalendarMonth { year: self.year, month: self.month }
+        CalendarMonth {
+            year: self.year,
+            month: self.month,
+        }
     }
 
     // The number of the date; none where there is no such day, or it has no number.
@@ -65,7 +72,7 @@ impl Date {
         ensures { λ r. ⌜ r ≡ numberOf (now (self .entry)) ⌝ }
     {
         let month = self.calendar_month();
-        if !month.has_begun() {
+        if !month.first_is_counted() {
             return None;
         }
         if self.day < 1 || self.day > month_length(self.year, self.month) {

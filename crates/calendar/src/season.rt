@@ -24,9 +24,18 @@ impl Date {
         ensures { λ r. ⌜ r ≡ seasonOf (now (self .entry)) ⌝ }
     {
         match (self.month, self.day) {
-            (5, 16..) | (6..=9, _) => Some(Season { kind: SeasonKind::Summer, year: self.year }),
-            (12, _) => Some(Season { kind: SeasonKind::Winter, year: self.year }),
-            (1..=3, _) => Some(Season { kind: SeasonKind::Winter, year: self.year.saturating_sub(1) }),
+            (5, 16..) | (6..=9, _) => Some(Season {
+                kind: SeasonKind::Summer,
+                year: self.year,
+            }),
+            (12, _) => Some(Season {
+                kind: SeasonKind::Winter,
+                year: self.year,
+            }),
+            (1..=3, _) => Some(Season {
+                kind: SeasonKind::Winter,
+                year: self.year.saturating_sub(1),
+            }),
             _ => None,
         }
     }
@@ -45,8 +54,16 @@ impl Season {
         ensures { λ r. ⌜ r ≡ seasonFirst (now (self .entry)) ⌝ }
     {
         match self.kind {
-            SeasonKind::Summer => Date { year: self.year, month: 5, day: 16 }.day_number(),
-            SeasonKind::Winter => Date { year: self.year, month: 12, day: 1 }.day_number(),
+            SeasonKind::Summer => Date {
+                year: self.year,
+                month: 5,
+                day: 16,
+            }.day_number(),
+            SeasonKind::Winter => Date {
+                year: self.year,
+                month: 12,
+                day: 1,
+            }.day_number(),
         }
     }
 
@@ -55,8 +72,16 @@ impl Season {
         ensures { λ r. ⌜ r ≡ seasonLast (now (self .entry)) ⌝ }
     {
         match self.kind {
-            SeasonKind::Summer => Date { year: self.year, month: 9, day: 30 }.day_number(),
-            SeasonKind::Winter => Date { year: self.year.checked_add(1)?, month: 3, day: 31 }.day_number(),
+            SeasonKind::Summer => Date {
+                year: self.year,
+                month: 9,
+                day: 30,
+            }.day_number(),
+            SeasonKind::Winter => Date {
+                year: self.year.checked_add(1)?,
+                month: 3,
+                day: 31,
+            }.day_number(),
         }
     }
 }
@@ -67,9 +92,18 @@ impl CalendarMonth {
         ensures { λ r. ⌜ r ≡ creditedSeason (now (self .entry)) ⌝ }
     {
         match self.month {
-            6..=9 => Some(Season { kind: SeasonKind::Summer, year: self.year }),
-            12 => Some(Season { kind: SeasonKind::Winter, year: self.year }),
-            1..=3 => Some(Season { kind: SeasonKind::Winter, year: self.year.saturating_sub(1) }),
+            6..=9 => Some(Season {
+                kind: SeasonKind::Summer,
+                year: self.year,
+            }),
+            12 => Some(Season {
+                kind: SeasonKind::Winter,
+                year: self.year,
+            }),
+            1..=3 => Some(Season {
+                kind: SeasonKind::Winter,
+                year: self.year.saturating_sub(1),
+            }),
             _ => None,
         }
     }

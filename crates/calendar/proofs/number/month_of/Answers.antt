@@ -37,5 +37,5 @@ returns c =
     let m = month-most (c .args .year) (c .loop-rest .month) in
     record {
       value = reached-all (monthLength (c .args .year)) 1 (c .args .day) (c .loop-rest .month) (c .loop-rest .rest) (c .loop-rest .inv) 11 h l;
-      inside = omega (arith, l, m)
+      inside = omega (arith, l, m);
     }

@@ -23,5 +23,5 @@ returns c =
     let h = reached-near yearLength 2000 (c .args .day) (c .loop-rest .year) (c .loop-rest .rest) (c .loop-rest .inv) 101 (omega (arith, c .pre)) in
     record {
       value = reached-all yearLength 2000 (c .args .day) (c .loop-rest .year) (c .loop-rest .rest) (c .loop-rest .inv) 100 (omega (arith, h)) l;
-      inside = l
+      inside = l;
     }
