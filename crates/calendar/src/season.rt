@@ -1,6 +1,7 @@
 // The two seasons of curtailment, and which of them holds a day.
 ghost use mathlib.Core.Path.{_≡_};
-ghost use Rattle.calendar.specs.Seasons.{seasonOf, opens};
+ghost use Rattle.calendar.specs.Seasons.{seasonOf, opens, seasonFirst, seasonLast, creditedSeason};
+use crate::date::CalendarMonth;
 use crate::date::Date;
 
 // Summer or winter.
@@ -23,9 +24,18 @@ impl Date {
         ensures { λ r. ⌜ r ≡ seasonOf (now (self .entry)) ⌝ }
     {
         match (self.month, self.day) {
-            (5, 16..) | (6..=9, _) => Some(Season { kind: SeasonKind::Summer, year: self.year }),
-            (12, _) => Some(Season { kind: SeasonKind::Winter, year: self.year }),
-            (1..=3, _) => Some(Season { kind: SeasonKind::Winter, year: self.year.saturating_sub(1) }),
+            (5, 16..) | (6..=9, _) => Some(Season {
+                kind: SeasonKind::Summer,
+                year: self.year,
+            }),
+            (12, _) => Some(Season {
+                kind: SeasonKind::Winter,
+                year: self.year,
+            }),
+            (1..=3, _) => Some(Season {
+                kind: SeasonKind::Winter,
+                year: self.year.saturating_sub(1),
+            }),
             _ => None,
         }
     }
@@ -35,5 +45,66 @@ impl Date {
         ensures { λ r. ⌜ r ≡ opens (now (self .entry)) ⌝ }
     {
         (self.month == 5 && self.day == 16) || (self.month == 12 && self.day == 1)
+    }
+}
+
+impl Season {
+    // The number of the season's first day, 16 May or 1 December; none where that day has none.
+    pub fn first_day(&self) -> Option<u32>
+        ensures { λ r. ⌜ r ≡ seasonFirst (now (self .entry)) ⌝ }
+    {
+        match self.kind {
+            SeasonKind::Summer => Date {
+                year: self.year,
+                month: 5,
+                day: 16,
+            }.day_number(),
+            SeasonKind::Winter => Date {
+                year: self.year,
+                month: 12,
+                day: 1,
+            }.day_number(),
+        }
+    }
+
+    // The number of the season's last day, 30 September or 31 March; none where that day has none.
+    pub fn last_day(&self) -> Option<u32>
+        ensures { λ r. ⌜ r ≡ seasonLast (now (self .entry)) ⌝ }
+    {
+        match self.kind {
+            SeasonKind::Summer => Date {
+                year: self.year,
+                month: 9,
+                day: 30,
+            }.day_number(),
+            SeasonKind::Winter => Date {
+                year: self.year.checked_add(1)?,
+                month: 3,
+                day: 31,
+            }.day_number(),
+        }
+    }
+}
+
+impl CalendarMonth {
+    // The season to which the month's credit belongs, if any.
+    pub fn credited_season(&self) -> Option<Season>
+        ensures { λ r. ⌜ r ≡ creditedSeason (now (self .entry)) ⌝ }
+    {
+        match self.month {
+            6..=9 => Some(Season {
+                kind: SeasonKind::Summer,
+                year: self.year,
+            }),
+            12 => Some(Season {
+                kind: SeasonKind::Winter,
+                year: self.year,
+            }),
+            1..=3 => Some(Season {
+                kind: SeasonKind::Winter,
+                year: self.year.saturating_sub(1),
+            }),
+            _ => None,
+        }
     }
 }
