@@ -1,1 +1,4 @@
+pub mod Adding
+pub mod Counting
+pub mod Ending
 pub mod Scanning

@@ -82,7 +82,7 @@ pushed xs n None = refl
 pushed xs n (Some ys) = ap Some (sym (append-assoc xs (n ∷ []) ys))
 
 -- some piece is left
-exactly-none : (stop : ℕ) (xs : List ℕ) → exactly 0 (pieces stop xs) ≡ None
+pub exactly-none : (stop : ℕ) (xs : List ℕ) → exactly 0 (pieces stop xs) ≡ None
 exactly-none stop [] = refl
 exactly-none stop (b ∷ bs) =
     elim (eqb b stop) as (λ t. exactly 0 (cond t ([] ∷ pieces stop bs) (onto b (pieces stop bs))) ≡ None) [

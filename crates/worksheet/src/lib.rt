@@ -1,3 +1,4 @@
 // A month's worksheet: its text with terms and readings in, its bill and credit as a report out.
 pub mod header;
 pub mod scan;
+pub mod sheet;
