@@ -2,3 +2,4 @@ pub mod Adding
 pub mod Counting
 pub mod Ending
 pub mod Scanning
+pub mod Working

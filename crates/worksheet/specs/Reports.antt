@@ -1,0 +1,105 @@
+-- What is printed: the report of a worksheet, or the line that is wrong and why.
+use Prim.Native.Nat.{ℕ, _*_, _/_, _%_}
+use mathlib.Core.List.{List, [], _++_}
+use lib.Chars.{codes}
+use Rattle.std.specs.Written.{decimal}
+use Rattle.std.specs.declared.option.Option.{Option}
+use Rattle.std.specs.declared.option.Option.the-variants.{Some, None}
+use Rattle.std.specs.declared.result.Result.{Result}
+use Rattle.std.specs.declared.result.Result.the-variants.{Ok, Err}
+use Rattle.billing.specs.Amounts.{cents}
+use Rattle.billing.specs.declared.figures.Figures.{Figures}
+use Rattle.rates.specs.Gs3ev.{billing}
+use Rattle.rates.specs.declared.gs3ev.Billing.{Billing}
+use Rattle.rates.specs.declared.gs3ev.Billing.the-variants as billing
+use Rattle.worksheet.specs.Sheets.{sheetOf}
+use Rattle.worksheet.specs.Text.{pieces}
+use Rattle.worksheet.specs.Works.{workedOf}
+use Rattle.worksheet.specs.declared.header.RateTerms.{RateTerms}
+use Rattle.worksheet.specs.declared.header.RateTerms.the-variants as rate
+use Rattle.worksheet.specs.declared.header.Wrong.{Wrong}
+use Rattle.worksheet.specs.declared.header.Wrong.the-variants as wrong
+use Rattle.worksheet.specs.declared.report.Way.{Way}
+use Rattle.worksheet.specs.declared.report.Way.the-variants as ways
+use Rattle.worksheet.specs.declared.sheet.Fault.{Fault}
+use Rattle.worksheet.specs.declared.sheet.Sheet.{Sheet}
+use Rattle.worksheet.specs.declared.work.Worked.{Worked}
+
+-- dollars, a point, and two digits of cents
+abbrev pub amount : ℕ → List ℕ
+amount n = decimal (n / 100) ++ (codes "." ++ (decimal (n / 10 % 10) ++ decimal (n % 10)))
+
+abbrev wayBy : Billing → Way
+wayBy billing.NonDemand = ways.NonDemand
+wayBy billing.Demand = ways.Demand
+
+-- how a month was billed
+abbrev pub wayOf : RateTerms → Figures → Way
+wayOf (rate.Gs3ev supply minimum kept) m = wayBy (billing m)
+wayOf (rate.Entered s) m = ways.Entered
+
+abbrev pub way : Way → List ℕ
+way ways.NonDemand = codes "non-demand"
+way ways.Demand = codes "demand"
+way ways.Entered = codes "entered"
+
+-- what is wrong, in words
+abbrev pub reason : Wrong → List ℕ
+reason wrong.Plan = codes "the first word is not gs3ev, entered, metered or standby"
+reason wrong.Terms = codes "after the plan stand not just its numbers, one space before each"
+reason wrong.Supply = codes "supply is not 1 or 0"
+reason wrong.Code = codes "the schedule code is not 1 to 9"
+reason wrong.Month = codes "the month is not 1 to 12, or the year not 2000 to 2099"
+reason wrong.Readings = codes "a day has not just 48 readings of 0 to 100000 kW, a space between each two"
+reason wrong.Missing = codes "a day is missing"
+reason wrong.More = codes "more lines than the month has days"
+reason wrong.Limits = codes "a term is outside its limits (refusal 1)"
+reason wrong.Basis = codes "the basis is not open to the schedule (refusal 5)"
+
+-- the month and its days
+abbrev pub monthLine : Sheet → List ℕ
+monthLine s =
+    codes "MONTH "
+    ++ (decimal (s .header .month .year)
+    ++ (codes "-"
+    ++ (decimal (s .header .month .month)
+    ++ (codes " OF "
+    ++ (decimal (s .figures .days)
+    ++ codes " DAYS\n")))))
+
+-- its energy in kWh, of which a reading is half, and its demand
+abbrev pub measures : Figures → List ℕ
+measures m =
+    codes "ENERGY "
+    ++ (decimal (m .energy / 2)
+    ++ (codes "."
+    ++ (decimal (m .energy % 2 * 5)
+    ++ (codes " KWH\nDEMAND "
+    ++ (decimal (m .peak)
+    ++ codes " KW\n")))))
+
+-- how it was billed, charges and floor, and the larger of them
+abbrev pub sums : Way → Worked → List ℕ
+sums w worked =
+    codes "BILLING "
+    ++ (way w
+    ++ (codes "\nCHARGES "
+    ++ (amount (cents (worked .charges) 1)
+    ++ (codes "\nFLOOR "
+    ++ (amount (cents (worked .floor) 1)
+    ++ (codes "\nBILL "
+    ++ (amount (worked .bill)
+    ++ codes "\n")))))))
+
+abbrev pub creditLine : Option ℕ → List ℕ
+creditLine None = []
+creditLine (Some c) = codes "CREDIT " ++ (amount c ++ codes "\n")
+
+-- the report of a worksheet that was worked out
+abbrev pub reportOf : Sheet → Worked → List ℕ
+reportOf s worked =
+    ((monthLine s ++ measures (s .figures)) ++ sums (wayOf (s .header .rate) (s .figures)) worked) ++ creditLine (worked .credit)
+
+-- the line that is wrong, and why
+abbrev pub faultLine : Fault → List ℕ
+faultLine f = codes "line " ++ (decimal (f .line) ++ (codes ": " ++ (reason (f .wrong) ++ codes "\n")))
