@@ -1,6 +1,8 @@
 -- What is printed: the report of a worksheet, or the line that is wrong and why.
 use Prim.Native.Nat.{ℕ, _*_, _/_, _%_}
+use mathlib.Core.Bool.{Bool, true, false}
 use mathlib.Core.List.{List, [], _++_}
+use mathlib.Core.Path.{_≡_}
 use lib.Chars.{codes}
 use Rattle.std.specs.Written.{decimal}
 use Rattle.std.specs.declared.option.Option.{Option}
@@ -103,3 +105,18 @@ reportOf s worked =
 -- the line that is wrong, and why
 abbrev pub faultLine : Fault → List ℕ
 faultLine f = codes "line " ++ (decimal (f .line) ++ (codes ": " ++ (reason (f .wrong) ++ codes "\n")))
+
+abbrev workedAnswer : Sheet → Result Worked Wrong → Bool × List ℕ
+workedAnswer s (Ok worked) = (true, reportOf s worked)
+workedAnswer s (Err w) = (false, faultLine (record { line = 1; wrong = w }))
+
+abbrev sheetAnswer : Result Sheet Fault → Bool × List ℕ
+sheetAnswer (Ok s) = workedAnswer s (workedOf s)
+sheetAnswer (Err f) = (false, faultLine f)
+
+-- whether a text is a worksheet that can be worked out, and what is printed of it
+abbrev pub answerOf : List ℕ → Bool × List ℕ
+answerOf text = sheetAnswer (sheetOf (pieces 10 text))
+
+abbrev pub Answers : List ℕ → Bool → List ℕ → Type 0
+Answers text accepted printed = (accepted ≡ answerOf text .0) × (printed ≡ answerOf text .1)

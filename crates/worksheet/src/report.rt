@@ -4,14 +4,16 @@ ghost use mathlib.Core.Path.{_≡_};
 ghost use Rattle.std.specs.Of.String.{string-bytes};
 ghost use Rattle.std.specs.Vec.{made};
 ghost use Rattle.std.specs.declared.option.Option.the-variants.{Some};
-ghost use Rattle.worksheet.specs.Reports.{amount, reason, way, wayOf, monthLine, measures, sums, creditLine, reportOf, faultLine};
+ghost use Rattle.worksheet.specs.Reports.{amount, reason, way, wayOf, monthLine, measures, sums, creditLine, reportOf, faultLine, Answers};
 use billing::amount::cents;
 use billing::figures::Figures;
 use crate::header::RateTerms;
 use crate::header::Wrong;
 use crate::sheet::Fault;
 use crate::sheet::Sheet;
+use crate::sheet::read_sheet;
 use crate::work::Worked;
+use crate::work::work;
 use rates::gs3ev::Billing;
 use std::alloc::AllocError;
 use std::alloc::Global;
@@ -151,4 +153,33 @@ pub fn explain(heap: Global, fault: &Fault) -> Result<String, AllocError>
     let line = fault.line;
     let reason = fault.wrong.reason();
     format!(heap, "line {line}: {reason}\n")
+}
+
+// What is printed of a worksheet: its report, or the line that is wrong.
+#[derive(Drop)]
+pub struct Answer {
+    pub accepted: bool,
+    pub text: String,
+}
+
+// The answer to a worksheet's text.
+pub fn answer_to(heap: Global, text: &[u8]) -> Result<Answer, AllocError>
+    ensures { λ r. ⌜ made r (λ a. Answers (now (text .entry)) (a .accepted) (string-bytes (a .text))) ⌝ }
+{
+    match read_sheet(text) {
+        Ok(sheet) => match work(&sheet) {
+            Ok(worked) => {
+                let text = report(heap, &sheet, &worked)?;
+                Ok(Answer { accepted: true, text })
+            }
+            Err(wrong) => {
+                let text = explain(heap, &Fault { line: 1, wrong })?;
+                Ok(Answer { accepted: false, text })
+            }
+        },
+        Err(fault) => {
+            let text = explain(heap, &fault)?;
+            Ok(Answer { accepted: false, text })
+        }
+    }
 }
