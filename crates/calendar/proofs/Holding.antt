@@ -173,6 +173,22 @@ winter-first y a b = numbered-in y 12 1 a b (omega arith) (omega arith) (omega a
 pub winter-last : (y : ℕ) → 1999 ≤ y → y ≤ 2098 → seasonLast (winter y) ≡ Some (firstDay (y + 1) 3 + 30)
 winter-last y a b = numbered-in (y + 1) 3 31 (omega arith) (omega arith) (omega arith) (omega arith) (omega arith) (omega arith)
 
+-- the days of a season with both numbers
+between : (s : Season) (f l n : ℕ) → seasonFirst s ≡ Some f → seasonLast s ≡ Some l → n ≤ lastDay
+    → (seasonOf (dateOf n) ≡ Some s → (f ≤ n) × (n ≤ l)) × (f ≤ n → n ≤ l → seasonOf (dateOf n) ≡ Some s)
+between s f l n a b h = ((λ e. (held-from n s f h e a, held-to n s l h e b)), λ g k. held-between n s f l a b g k)
+
+pub summer-days : (y n : ℕ) → 2000 ≤ y → y ≤ 2099 → n ≤ lastDay
+    → (seasonOf (dateOf n) ≡ Some (summer y) → (firstDay y 5 + 15 ≤ n) × (n ≤ firstDay y 9 + 29))
+    × (firstDay y 5 + 15 ≤ n → n ≤ firstDay y 9 + 29 → seasonOf (dateOf n) ≡ Some (summer y))
+summer-days y n a b h = between (summer y) (firstDay y 5 + 15) (firstDay y 9 + 29) n (summer-first y a b) (summer-last y a b) h
+
+pub winter-days : (y n : ℕ) → 2000 ≤ y → y ≤ 2098 → n ≤ lastDay
+    → (seasonOf (dateOf n) ≡ Some (winter y) → (firstDay y 12 ≤ n) × (n ≤ firstDay (y + 1) 3 + 30))
+    × (firstDay y 12 ≤ n → n ≤ firstDay (y + 1) 3 + 30 → seasonOf (dateOf n) ≡ Some (winter y))
+winter-days y n a b h =
+    between (winter y) (firstDay y 12) (firstDay (y + 1) 3 + 30) n (winter-first y a (omega arith)) (winter-last y (omega arith) b) h
+
 unnumbered : (d : Date) → firstCounted (monthOf d) ≡ false → numberOf d ≡ None
 unnumbered d e = cond-false _ _ _ (and-left (firstCounted (monthOf d)) _ e)
 

@@ -3,7 +3,7 @@ use Rattle.calendar.specs.Laws.{CalendarLaws, SeasonNumbers, SeasonHolds}
 use Rattle.calendar.proofs.Dating.{first-date, last-date, dateOf-real, dateOf-number, one-day, held-by-month}
 use Rattle.calendar.proofs.Numbering.{known, number-back}
 use Rattle.calendar.proofs.Following.{next-day, in-its-month, month-days, month-stays, month-turns, month-adjoins, year-adjoins, months-in-order}
-use Rattle.calendar.proofs.Holding.{summer-first, summer-last, winter-first, winter-last, summer-unnumbered, winter-unbegun, winter-unended, held-from, held-to, held-between, first-winter, last-winter, opens-first, first-opens, seasons-in-order, credited-holds, held-credited, credited-in-order}
+use Rattle.calendar.proofs.Holding.{summer-first, summer-last, winter-first, winter-last, summer-unnumbered, winter-unbegun, winter-unended, held-from, held-to, held-between, first-winter, last-winter, summer-days, winter-days, opens-first, first-opens, seasons-in-order, credited-holds, held-credited, credited-in-order}
 
 pub season-numbers : SeasonNumbers
 season-numbers = record {
@@ -36,6 +36,8 @@ calendar-laws = record {
   months-in-order = months-in-order;
   season-numbers = season-numbers;
   season-holds = season-holds;
+  summer-days = summer-days;
+  winter-days = winter-days;
   opening = (opens-first, first-opens);
   seasons-in-order = seasons-in-order;
   credited-holds = credited-holds;

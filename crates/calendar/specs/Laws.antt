@@ -41,6 +41,7 @@ kindIndex Winter = 1
 abbrev pub seasonIndex : Season → ℕ
 seasonIndex s = 2 * s .year + kindIndex (s .kind)
 
+-- of day n's month: its first day, its length, and its place in order
 abbrev pub firstOf : ℕ → ℕ
 firstOf n = firstDay (dateOf n .year) (dateOf n .month)
 
@@ -124,6 +125,20 @@ pub record SeasonHolds : Type 0 where
   pub first-winter : (n l : ℕ) → seasonLast (winter 1999) ≡ Some l → n ≤ l → seasonOf (dateOf n) ≡ Some (winter 1999)
   pub last-winter : (n f : ℕ) → seasonFirst (winter 2099) ≡ Some f → f ≤ n → n ≤ lastDay → seasonOf (dateOf n) ≡ Some (winter 2099)
 
+-- so a summer holds the days from 16 May to 30 September of its year
+abbrev pub SummerDays : Type 0
+SummerDays =
+    (y n : ℕ) → 2000 ≤ y → y ≤ 2099 → n ≤ lastDay
+    → (seasonOf (dateOf n) ≡ Some (summer y) → (firstDay y 5 + 15 ≤ n) × (n ≤ firstDay y 9 + 29))
+    × (firstDay y 5 + 15 ≤ n → n ≤ firstDay y 9 + 29 → seasonOf (dateOf n) ≡ Some (summer y))
+
+-- and a winter those from 1 December of its year to 31 March of the next
+abbrev pub WinterDays : Type 0
+WinterDays =
+    (y n : ℕ) → 2000 ≤ y → y ≤ 2098 → n ≤ lastDay
+    → (seasonOf (dateOf n) ≡ Some (winter y) → (firstDay y 12 ≤ n) × (n ≤ firstDay (y + 1) 3 + 30))
+    × (firstDay y 12 ≤ n → n ≤ firstDay (y + 1) 3 + 30 → seasonOf (dateOf n) ≡ Some (winter y))
+
 -- a day opens a season where it is the first that the season holds
 abbrev pub Opening : Type 0
 Opening =
@@ -164,6 +179,8 @@ pub record CalendarLaws : Type 0 where
   pub months-in-order : MonthsInOrder
   pub season-numbers : SeasonNumbers
   pub season-holds : SeasonHolds
+  pub summer-days : SummerDays
+  pub winter-days : WinterDays
   pub opening : Opening
   pub seasons-in-order : SeasonsInOrder
   pub credited-holds : CreditedHolds

@@ -1,7 +1,7 @@
 // The days of a calendar month: how many, and the numbers of its first and last.
 ghost use Prim.Native.Nat.{_+_, _-_, _≤_};
 ghost use mathlib.Core.Path.{_≡_};
-ghost use Rattle.calendar.specs.Dates.{yearLength, monthLength, total, counted, firstCounted, firstDay, lengthOf, firstDayOf, lastDayOf};
+ghost use Rattle.calendar.specs.Dates.{yearLength, monthLength, total, counted, firstCounted, firstDay, lengthOf, firstDayOf, lastDayOf, lastDay};
 use crate::date::CalendarMonth;
 use crate::length::month_length;
 use crate::length::year_length;
@@ -10,7 +10,7 @@ use crate::length::year_length;
 fn days_before_year(year: u32) -> u32
     requires { ⌜ 2000 ≤ year ⌝ ∗ ⌜ year ≤ 2100 ⌝ }
     ensures value { λ r. ⌜ r ≡ total yearLength 2000 (year - 2000) ⌝ }
-    ensures bound { λ r. ⌜ r ≤ 36525 ⌝ }
+    ensures bound { λ r. ⌜ r ≤ lastDay ⌝ }
 {
     let mut days = 0;
     for earlier in 2000..year {
@@ -63,7 +63,7 @@ impl CalendarMonth {
         requires year { ⌜ 2000 ≤ now self .year ⌝ ∗ ⌜ now self .year ≤ 2100 ⌝ }
         requires month { ⌜ 1 ≤ now self .month ⌝ ∗ ⌜ now self .month ≤ 12 ⌝ }
         ensures value { λ r. ⌜ r ≡ firstDay (now (self .entry) .year) (now (self .entry) .month) ⌝ }
-        ensures bound { λ r. ⌜ r ≤ 36891 ⌝ }
+        ensures bound { λ r. ⌜ r ≤ lastDay + 366 ⌝ }
     {
         days_before_year(self.year) + days_before_month(self.year, self.month)
     }

@@ -1,7 +1,7 @@
 // The date of a day number, and the day number of a date.
 ghost use Prim.Native.Nat.{_+_, _-_, _≤_, _<_};
 ghost use mathlib.Core.Path.{_≡_};
-ghost use Rattle.calendar.specs.Dates.{yearLength, monthLength, locate, dated, monthOf, numberOf};
+ghost use Rattle.calendar.specs.Dates.{yearLength, monthLength, locate, lastDay, date, dated, monthOf, numberOf};
 use crate::date::CalendarMonth;
 use crate::date::Date;
 use crate::length::month_length;
@@ -12,7 +12,7 @@ pub const LAST_DAY: u32 = 36_525;
 
 // The year that holds a day, and the days of that year before it.
 fn year_of(day: u32) -> (u32, u32)
-    requires { ⌜ day ≤ 36525 ⌝ }
+    requires { ⌜ day ≤ lastDay ⌝ }
     ensures value { λ r. ⌜ r ≡ locate yearLength 100 2000 day ⌝ }
     ensures inside { λ r. ⌜ r .1 < yearLength (r .0) ⌝ }
 {
@@ -49,14 +49,17 @@ pub fn date_of(day: u32) -> Option<Date>
     }
     let (year, day_of_year) = year_of(day);
     let (month, day_of_month) = month_of(year, day_of_year);
-    Some(Date {
-        year,
-        month,
-        day: day_of_month + 1,
-    })
+    Some(Date::on(year, month, day_of_month + 1))
 }
 
 impl Date {
+    // The date with a year, a month and a day.
+    pub(crate) fn on(year: u32, month: u32, day: u32) -> Date
+        ensures { λ r. ⌜ r ≡ date year month day ⌝ }
+    {
+        Date { year, month, day }
+    }
+
     // The date's calendar month.
     pub fn calendar_month(&self) -> CalendarMonth
         ensures { λ r. ⌜ r ≡ monthOf (now (self .entry)) ⌝ }
