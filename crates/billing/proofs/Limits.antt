@@ -14,17 +14,11 @@ use Rattle.std.specs.shelf.Lists.{All}
 use Rattle.std.proofs.shelf.Ways.{tells}
 use borrow.Author.Needs.{needs}
 use Rattle.billing.specs.declared.figures.Figures.{Figures}
-use Rattle.billing.specs.Limits.{lengths, hasDays, modest, measured, windowed, within, Within, Limited}
-
-at-most : (b : ℕ) (xs : List ℕ) (k : ℕ) → All (λ x. x ≤ b) xs → getD xs k 0 ≤ b
-at-most b [] k a = omega arith
-at-most b (x ∷ xs) zero a = a .0
-at-most b (x ∷ xs) (suc k) a = at-most b xs k (a .1)
+use Rattle.billing.specs.Limits.{hasDays, modest, measured, windowed, within, Within, Limited}
 
 -- no month is longer than 31 days
 short : (number days : ℕ) → hasDays number days ≡ true → (number ≤ 12) × (days ≤ 31)
 short number days h =
-    let a = at-most 31 (0 ∷ lengths) number (search needs) in
     let n : number ≤ 12 = grind (arith, tells) in
     let d : days ≤ 31 = grind (arith, tells) in
     (n, d)
@@ -54,5 +48,5 @@ limited m w =
       energy = omega (arith, e, x);
       halves = n;
       curtailable = omega (arith, u, y);
-      under = u
+      under = u;
     }

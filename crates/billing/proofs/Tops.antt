@@ -54,7 +54,7 @@ module _ {X : Type 0} (low : X → X → Bool) (order : Order low) where
         after = l .after;
         split = ap (λ t. b ∷ t) (l .split);
         first = (under b x r h (head x r xs (l .before) (l .after) (l .split) (l .first)), l .first);
-        top = l .top
+        top = l .top;
       }
 
   -- one more item behind the first, which is not higher
@@ -77,8 +77,8 @@ module _ {X : Type 0} (low : X → X → Bool) (order : Order low) where
   best-leads b [] = record { before = []; after = []; split = refl; first = tt; top = tt }
   best-leads b (x ∷ xs) =
       elim (low b x) as (λ t. low b x ≡ t → Leads low (b ∷ x ∷ xs) (best low (cond t x b) xs)) [
-        true ↦ λ e. later b x (best low x xs) xs e (best-leads x xs)
-      | false ↦ λ e. kept b x (best low b xs) xs e (best-leads b xs)
+        | true ↦ λ e. later b x (best low x xs) xs e (best-leads x xs)
+        | false ↦ λ e. kept b x (best low b xs) xs e (best-leads b xs)
       ] refl
 
   pub highest-leads : (xs : List X) (x : X) → highest low xs ≡ Some x → Leads low xs x

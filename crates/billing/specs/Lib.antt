@@ -1,4 +1,5 @@
 pub mod Amounts
+pub mod Faults
 pub mod Highest
 pub mod Limits
 pub mod Months

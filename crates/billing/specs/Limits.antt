@@ -1,20 +1,15 @@
 -- The limits of a month's figures.
 use Prim.Native.Nat.{ℕ, _*_, _≤_}
-use mathlib.Core.Bool.{Bool, true, false, cond, _&&_, _||_}
-use mathlib.Core.List.{List, [], _∷_}
+use mathlib.Core.Bool.{Bool, true, _&&_, _||_}
 use mathlib.Core.Path.{_≡_}
 use lib.Dec.{leb, eqb}
-use lib.ListN.{getD}
+use Rattle.calendar.specs.Dates.{isMonth, monthLength}
 use Rattle.billing.specs.declared.figures.Figures.{Figures}
 
--- the days of each month of a common year, January first
-abbrev pub lengths : List ℕ
-lengths = 31 ∷ 28 ∷ 31 ∷ 30 ∷ 31 ∷ 30 ∷ 31 ∷ 31 ∷ 30 ∷ 31 ∷ 30 ∷ 31 ∷ []
-
--- a month of this number can have this many days; February has a 29th now and then
+-- a month of this number can have this many days: as many as in a common year or in a leap year
 abbrev pub hasDays : ℕ → ℕ → Bool
 hasDays number days =
-    leb 1 number && (leb number 12 && (eqb days (getD (0 ∷ lengths) number 0) || (eqb number 2 && eqb days 29)))
+    isMonth number && (eqb days (monthLength 2001 number) || eqb days (monthLength 2004 number))
 
 -- demands within the meter's range, an entered bill within its own
 abbrev pub modest : Figures → Bool

@@ -5,15 +5,15 @@ ghost use Prim.Native.Nat.{ℕ, _≤_};
 ghost use Rattle.billing.specs.Prices.{filed};
 ghost use Rattle.curtailment.specs.Metering.{meteredServes, meteredCredit, meteredFailure};
 ghost use Rattle.curtailment.specs.Pricing.{monthlyCharge};
+use crate::basis::Basis;
+use crate::price::credit_price;
+use crate::price::failure_price;
+use crate::price::monthly_cents;
 use billing::amount::cents;
 use billing::fault::TermsFault;
 use billing::month::Month;
 use billing::schedule::Schedule;
 use calendar::season::SeasonKind;
-use crate::basis::Basis;
-use crate::price::credit_price;
-use crate::price::failure_price;
-use crate::price::monthly_cents;
 
 // The basis of a site with a recording meter; it has no terms of its own.
 #[derive(Clone, Copy)]
@@ -52,14 +52,24 @@ pub impl Basis for Metered as MeteredBasis {
             return Err(TermsFault::OutsideLimits);
         }
         let figures = m.figures();
-        let above = (figures.curtailable as u64).saturating_sub(figures.halves as u64 * firm as u64);
+        let above = (figures.curtailable as u64).saturating_sub(
+            figures.halves as u64 * firm as u64,
+        );
         Ok(cents(credit_price(season) * above, figures.halves))
     }
 
-    fn failure_charge(&self, season: SeasonKind, firm: u32, demand: u32) -> Result<u64, TermsFault> {
+    fn failure_charge(
+        &self,
+        season: SeasonKind,
+        firm: u32,
+        demand: u32,
+    ) -> Result<u64, TermsFault> {
         if firm > 100_000 || demand > 100_000 {
             return Err(TermsFault::OutsideLimits);
         }
-        Ok(cents(failure_price(season) * demand.saturating_sub(firm) as u64, 1))
+        Ok(cents(
+            failure_price(season) * demand.saturating_sub(firm) as u64,
+            1,
+        ))
     }
 }

@@ -2,11 +2,11 @@
 ghost use mathlib.Core.Path.{_≡_};
 ghost use mathlib.Core.Bool.{true, false};
 ghost use Prim.Native.Nat.{ℕ, _≤_};
+use crate::basis::Basis;
 use billing::fault::TermsFault;
 use billing::month::Month;
 use billing::schedule::Schedule;
 use calendar::season::SeasonKind;
-use crate::basis::Basis;
 
 // The basis of a site that has not chosen curtailment: any schedule, no firm demand, no money.
 #[derive(Clone, Copy)]
@@ -46,7 +46,12 @@ pub impl Basis for NoBasis as NoBasisBasis {
         Ok(0)
     }
 
-    fn failure_charge(&self, _season: SeasonKind, firm: u32, demand: u32) -> Result<u64, TermsFault> {
+    fn failure_charge(
+        &self,
+        _season: SeasonKind,
+        firm: u32,
+        demand: u32,
+    ) -> Result<u64, TermsFault> {
         if firm > 100_000 || demand > 100_000 {
             return Err(TermsFault::OutsideLimits);
         }

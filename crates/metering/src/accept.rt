@@ -1,10 +1,10 @@
 // Which notices a day may have: the refusals 11 and 12.
 ghost use mathlib.Core.Path.{_≡_};
 ghost use Rattle.metering.specs.Acceptance.{acceptance, numberOf, placed, inPlace, earliest, endOf};
-use calendar::date::Date;
-use calendar::season::SeasonKind;
 use crate::firm::FirmDemands;
 use crate::notice::Notice;
+use calendar::date::Date;
+use calendar::season::SeasonKind;
 
 // Why a day's notices are refused.
 #[derive(Clone, Copy)]

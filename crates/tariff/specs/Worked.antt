@@ -45,7 +45,7 @@ june energy peak supplementary curtailable halves =
       supplementary = supplementary;
       entered = 0;
       curtailable = curtailable;
-      halves = halves
+      halves = halves;
     }
 
 abbrev supplied : ℕ → Holding

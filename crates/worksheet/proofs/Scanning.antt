@@ -31,7 +31,7 @@ pub no-stop : (stop : ℕ) (xs : List ℕ) (i : ℕ) → i < length xs → eqb (
 no-stop stop xs i h e =
     let b = getD xs i 0 in
     let p : pieces stop (drop i xs) ≡ onto b (pieces stop (drop (i + 1) xs)) =
-        ap (pieces stop) (drop-more xs i 0 h) ∙ ap (λ t. cond t ([] ∷ pieces stop (drop (i + 1) xs)) (onto b (pieces stop (drop (i + 1) xs)))) e in
+    ap (pieces stop) (drop-more xs i 0 h) ∙ ap (λ t. cond t ([] ∷ pieces stop (drop (i + 1) xs)) (onto b (pieces stop (drop (i + 1) xs)))) e in
     ap (λ ys. front ys (pieces stop (drop (i + 1) xs))) (take-more xs i 0 h)
     ∙ front-push (take i xs) b (pieces stop (drop (i + 1) xs))
     ∙ sym (ap (front (take i xs)) p)
@@ -86,13 +86,13 @@ pub exactly-none : (stop : ℕ) (xs : List ℕ) → exactly 0 (pieces stop xs) �
 exactly-none stop [] = refl
 exactly-none stop (b ∷ bs) =
     elim (eqb b stop) as (λ t. exactly 0 (cond t ([] ∷ pieces stop bs) (onto b (pieces stop bs))) ≡ None) [
-      true ↦ refl
-    | false ↦ first b (pieces stop bs)
+      | true ↦ refl
+      | false ↦ first b (pieces stop bs)
     ]
   where
-  first : (b : ℕ) (ps : List (List ℕ)) → exactly 0 (onto b ps) ≡ None
-  first b [] = refl
-  first b (p ∷ ps) = refl
+    first : (b : ℕ) (ps : List (List ℕ)) → exactly 0 (onto b ps) ≡ None
+    first b [] = refl
+    first b (p ∷ ps) = refl
 
 -- the words of a line that are read so far, and those that are left
 module _ (k : ℕ) (line : List ℕ) where

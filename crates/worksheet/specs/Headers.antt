@@ -48,7 +48,7 @@ gs3evHeader (Some ns) =
       rider = getD ns 5 0;
       basis = basis.NoBasis;
       entered = 0;
-      supplementary = 0
+      supplementary = 0;
     }))
     (Err wrong.Supply)
 
@@ -78,7 +78,7 @@ standbyHeader (Some ns) =
       rider = getD ns 3 0;
       basis = basis.Standby (record { summer = getD ns 4 0; winter = getD ns 5 0; standby = getD ns 6 0; combined = getD ns 7 0; hours = getD ns 8 0 }) (getD ns 10 0);
       entered = getD ns 2 0;
-      supplementary = getD ns 9 0
+      supplementary = getD ns 9 0;
     })
 
 abbrev termed : List (List ℕ) → Option Plan → Result Header Wrong

@@ -3,10 +3,10 @@ ghost use mathlib.Core.Path.{_≡_};
 ghost use Rattle.worksheet.specs.Headers.{planOf, headerOf, gs3evHeader, enteredHeader, meteredHeader, standbyHeader};
 ghost use Rattle.std.specs.shelf.Text.{sameBytes};
 ghost use Rattle.worksheet.specs.Text.{pieces, exactly};
-use billing::schedule::Schedule;
-use calendar::date::CalendarMonth;
 use crate::scan::cut;
 use crate::scan::numbers;
+use billing::schedule::Schedule;
+use calendar::date::CalendarMonth;
 use curtailment::standby::StandbyTerms;
 
 // The plans that a worksheet can name.
@@ -159,8 +159,26 @@ fn standby_header(line: &[u8]) -> Result<Header, Wrong>
     let Some(terms) = numbers::<11>(line) else {
         return Err(Wrong::Terms);
     };
-    let [year, month, entered, rider, summer, winter, standby, combined, hours, supplementary, firm] = terms;
-    let plant = StandbyTerms { summer, winter, standby, combined, hours };
+    let [
+        year,
+        month,
+        entered,
+        rider,
+        summer,
+        winter,
+        standby,
+        combined,
+        hours,
+        supplementary,
+        firm,
+    ] = terms;
+    let plant = StandbyTerms {
+        summer,
+        winter,
+        standby,
+        combined,
+        hours,
+    };
     Ok(Header {
         month: CalendarMonth { year, month },
         rate: RateTerms::Entered(Schedule::Eight),

@@ -5,8 +5,6 @@ ghost use Rattle.std.specs.Of.String.{string-bytes};
 ghost use Rattle.std.specs.Vec.{made};
 ghost use Rattle.std.specs.declared.option.Option.the-variants.{Some};
 ghost use Rattle.worksheet.specs.Reports.{amount, reason, way, wayOf, monthLine, measures, sums, creditLine, reportOf, faultLine, Answers};
-use billing::amount::cents;
-use billing::figures::Figures;
 use crate::header::RateTerms;
 use crate::header::Wrong;
 use crate::sheet::Fault;
@@ -14,6 +12,8 @@ use crate::sheet::Sheet;
 use crate::sheet::read_sheet;
 use crate::work::Worked;
 use crate::work::work;
+use billing::amount::cents;
+use billing::figures::Figures;
 use rates::gs3ev::Billing;
 use std::alloc::AllocError;
 use std::alloc::Global;
@@ -79,7 +79,8 @@ impl Wrong {
             Wrong::Supply => "supply is not 1 or 0",
             Wrong::Code => "the schedule code is not 1 to 9",
             Wrong::Month => "the month is not 1 to 12, or the year not 2000 to 2099",
-            Wrong::Readings => "a day has not just 48 readings of 0 to 100000 kW, a space between each two",
+            Wrong::Readings =>
+                "a day has not just 48 readings of 0 to 100000 kW, a space between each two",
             Wrong::Missing => "a day is missing",
             Wrong::More => "more lines than the month has days",
             Wrong::Limits => "a term is outside its limits (refusal 1)",
@@ -116,7 +117,10 @@ fn sums(heap: Global, way: Way, worked: &Worked) -> Result<String, AllocError>
     let charges = Dollars(cents(worked.charges, 1));
     let floor = Dollars(cents(worked.floor, 1));
     let bill = Dollars(worked.bill);
-    format!(heap, "BILLING {word}\nCHARGES {charges}\nFLOOR {floor}\nBILL {bill}\n")
+    format!(
+        heap,
+        "BILLING {word}\nCHARGES {charges}\nFLOOR {floor}\nBILL {bill}\n"
+    )
 }
 
 // The line of the credit, where there is a basis.
@@ -139,7 +143,11 @@ pub fn report(heap: Global, sheet: &Sheet, worked: &Worked) -> Result<String, Al
     let mut text = month_line(heap, sheet)?;
     let measured = measures(heap, &sheet.figures)?;
     text.push_str(measured.as_str())?;
-    let bill = sums(heap, Way::of_month(&sheet.header.rate, &sheet.figures), worked)?;
+    let bill = sums(
+        heap,
+        Way::of_month(&sheet.header.rate, &sheet.figures),
+        worked,
+    )?;
     text.push_str(bill.as_str())?;
     let credit = credit_line(heap, worked.credit)?;
     text.push_str(credit.as_str())?;
@@ -170,16 +178,25 @@ pub fn answer_to(heap: Global, text: &[u8]) -> Result<Answer, AllocError>
         Ok(sheet) => match work(&sheet) {
             Ok(worked) => {
                 let text = report(heap, &sheet, &worked)?;
-                Ok(Answer { accepted: true, text })
+                Ok(Answer {
+                    accepted: true,
+                    text,
+                })
             }
             Err(wrong) => {
                 let text = explain(heap, &Fault { line: 1, wrong })?;
-                Ok(Answer { accepted: false, text })
+                Ok(Answer {
+                    accepted: false,
+                    text,
+                })
             }
         },
         Err(fault) => {
             let text = explain(heap, &fault)?;
-            Ok(Answer { accepted: false, text })
+            Ok(Answer {
+                accepted: false,
+                text,
+            })
         }
     }
 }

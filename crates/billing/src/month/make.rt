@@ -1,21 +1,35 @@
 // Making a month, which refuses figures outside their limits, and reading it.
 ghost use mathlib.Core.Path.{_≡_};
+ghost use mathlib.Core.Bool.{_&&_};
+ghost use Prim.Native.Nat.{_≤_};
+ghost use lib.Dec.{eqb};
+ghost use Rattle.calendar.specs.Dates.{isMonth, monthLength};
 ghost use Rattle.billing.specs.Limits.{hasDays, Limited};
 ghost use Rattle.billing.specs.Months.{figuresOf, checked, mapOk};
 use crate::fault::TermsFault;
 use crate::figures::Figures;
 use crate::month::Month;
+use calendar::date::CalendarMonth;
 
-// Whether a month of this number can have this many days; February has 28 or 29.
+// Whether a month of this number has this many days in a year.
+fn has_days_in(year: u32, number: u32, days: u32) -> bool
+    requires { ⌜ 2000 ≤ year ⌝ ∗ ⌜ year ≤ 2099 ⌝ }
+    ensures { λ r. ⌜ r ≡ (isMonth number && eqb days (monthLength year number)) ⌝ }
+{
+    match (CalendarMonth {
+        year,
+        month: number,
+    }).length() {
+        Some(length) => days == length,
+        None => false,
+    }
+}
+
+// Whether a month of this number can have this many days: in a common year or in a leap year.
 fn has_days(number: u32, days: u32) -> bool
     ensures { λ r. ⌜ r ≡ hasDays number days ⌝ }
 {
-    match number {
-        2 => days == 28 || days == 29,
-        4 | 6 | 9 | 11 => days == 30,
-        1 | 3 | 5 | 7 | 8 | 10 | 12 => days == 31,
-        _ => false,
-    }
+    has_days_in(2001, number, days) || has_days_in(2004, number, days)
 }
 
 impl Month {

@@ -3,10 +3,10 @@ ghost use mathlib.Core.Path.{_≡_};
 ghost use Prim.Native.Nat.{ℕ, _≤_};
 ghost use Rattle.billing.specs.Months.{mapOk};
 ghost use Rattle.curtailment.specs.Standing.{termsOf, agreed, supplementary, available, failing};
-use billing::fault::TermsFault;
-use calendar::season::SeasonKind;
 use crate::standby::Standby;
 use crate::standby::StandbyTerms;
+use billing::fault::TermsFault;
+use calendar::season::SeasonKind;
 
 impl Standby {
     // A basis of these terms, or the refusal of terms outside their limits.

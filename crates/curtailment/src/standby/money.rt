@@ -5,17 +5,17 @@ ghost use Prim.Native.Nat.{ℕ, _≤_};
 ghost use Rattle.billing.specs.Prices.{filed};
 ghost use Rattle.curtailment.specs.Pricing.{monthlyCharge};
 ghost use Rattle.curtailment.specs.Standing.{termsOf, standbyServes, standbyCredit, standbyFailure};
-use billing::amount::cents;
-use billing::fault::TermsFault;
-use billing::month::Month;
-use billing::schedule::Schedule;
-use calendar::season::SeasonKind;
 use crate::basis::Basis;
 use crate::price::credit_price;
 use crate::price::failure_price;
 use crate::price::monthly_cents;
 use crate::standby::Standby;
 use crate::standby::StandbyTerms;
+use billing::amount::cents;
+use billing::fault::TermsFault;
+use billing::month::Month;
+use billing::schedule::Schedule;
+use calendar::season::SeasonKind;
 
 pub impl Basis for Standby as StandbyBasis {
     type Terms = StandbyTerms;
@@ -53,10 +53,18 @@ pub impl Basis for Standby as StandbyBasis {
         Ok(cents(credit_price(season) * (standby + 3500 * above), 3500))
     }
 
-    fn failure_charge(&self, season: SeasonKind, firm: u32, demand: u32) -> Result<u64, TermsFault> {
+    fn failure_charge(
+        &self,
+        season: SeasonKind,
+        firm: u32,
+        demand: u32,
+    ) -> Result<u64, TermsFault> {
         if firm > 100_000 || demand > 100_000 {
             return Err(TermsFault::OutsideLimits);
         }
-        Ok(cents(failure_price(season) * self.failing(season, firm, demand), 3500))
+        Ok(cents(
+            failure_price(season) * self.failing(season, firm, demand),
+            3500,
+        ))
     }
 }

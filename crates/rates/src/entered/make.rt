@@ -3,11 +3,11 @@ ghost use mathlib.Core.Path.{_≡_};
 ghost use Prim.Native.Nat.{ℕ, _≤_, _*_};
 ghost use Rattle.billing.specs.Months.{mapOk};
 ghost use Rattle.rates.specs.Entering.{scheduleOf, enteredFor, enteredPair};
+use crate::entered::Entered;
+use crate::rate::Rate;
 use billing::fault::TermsFault;
 use billing::month::Month;
 use billing::schedule::Schedule;
-use crate::entered::Entered;
-use crate::rate::Rate;
 
 impl Entered {
     // A rate of entered bills under a schedule, which is not GS-3EV.

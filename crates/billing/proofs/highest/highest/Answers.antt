@@ -20,12 +20,12 @@ loop-item-again g c =
     let x = c .item-item .result in
     let t = turn low xs i b x _ (c .loop-item-test .taken) (c .item-item .is) (c .loop-item .inv) in
     elim (c .if-kw .came) [
-      then-kw w ↦
-        let h : low b x ≡ true = search (needs, w .if-kw .taken) in
-        ap (λ r. best low (r .now) (drop (i + 1) xs)) (w .best-is) ∙ ap (λ q. best low (cond q x b) (drop (i + 1) xs)) (sym h) ∙ t
-    | else-kw w ↦
-        let h : low b x ≡ false = search (needs, w .if-kw .left) in
-        ap (λ r. best low (r .now) (drop (i + 1) xs)) (w .best-is) ∙ ap (λ q. best low (cond q x b) (drop (i + 1) xs)) (sym h) ∙ t
+      | then-kw w ↦
+          let h : low b x ≡ true = search (needs, w .if-kw .taken) in
+          ap (λ r. best low (r .now) (drop (i + 1) xs)) (w .best-is) ∙ ap (λ q. best low (cond q x b) (drop (i + 1) xs)) (sym h) ∙ t
+      | else-kw w ↦
+          let h : low b x ≡ false = search (needs, w .if-kw .left) in
+          ap (λ r. best low (r .now) (drop (i + 1) xs)) (w .best-is) ∙ ap (λ q. best low (cond q x b) (drop (i + 1) xs)) (sym h) ∙ t
     ]
 
 pub returns : need.returns

@@ -59,15 +59,15 @@ returns-then-not-is-placed c =
     let h = plain (c .args .season) (c .args .low) _ (c .loop-notice .after) _ xs (drop i xs) l (c .loop-notice .after-is) (c .loop-notice .inv) in
     let o = one (c .args .season) (c .args .low) (c .loop-notice .after) xs i (c .loop-notice-test .taken) in
     elim (c .then-not-is-placed .came) [
-      then-not-is-placed·by·then-not-is-placed w ↦
-        let p : placed (c .args .season) (c .args .low) n ≡ false =
-            ap (λ z. placed (c .args .season) z n) (sym l) ∙ sym (c .is-placed .ensures) ∙ w .if-not-is-placed .taken in
-        sym (sym h ∙ o ∙ first-fails _ _ p)
-    | then-not-is-placed·by·else-not-is-placed·then-notice-after w ↦
-        let p : leZ (c .loop-notice .after) (n .minute) ≡ false =
-            let m : SFits w32 (n .minute) = search needs in
-            since (n .minute) _ (c .loop-notice .after) _ true (toZ-ofZ w32 (n .minute) m) (c .loop-notice .after-is) (w .if-notice-after .taken) in
-        sym (sym h ∙ o ∙ second-fails _ _ _ p)
+      | then-not-is-placed·by·then-not-is-placed w ↦
+          let p : placed (c .args .season) (c .args .low) n ≡ false =
+          ap (λ z. placed (c .args .season) z n) (sym l) ∙ sym (c .is-placed .ensures) ∙ w .if-not-is-placed .taken in
+          sym (sym h ∙ o ∙ first-fails _ _ p)
+      | then-not-is-placed·by·else-not-is-placed·then-notice-after w ↦
+          let p : leZ (c .loop-notice .after) (n .minute) ≡ false =
+          let m : SFits w32 (n .minute) = search needs in
+          since (n .minute) _ (c .loop-notice .after) _ true (toZ-ofZ w32 (n .minute) m) (c .loop-notice .after-is) (w .if-notice-after .taken) in
+          sym (sym h ∙ o ∙ second-fails _ _ _ p)
     ]
 
 pub loop-notice-again : need.loop-notice-again
@@ -79,10 +79,10 @@ loop-notice-again c =
     let h = plain (c .args .season) (c .args .low) _ (c .loop-notice .after) _ xs (drop i xs) l (c .loop-notice .after-is) (c .loop-notice .inv) in
     let o = one (c .args .season) (c .args .low) (c .loop-notice .after) xs i (c .loop-notice-test .taken) in
     let p : placed (c .args .season) (c .args .low) n ≡ true =
-        ap (λ z. placed (c .args .season) z n) (sym l) ∙ sym (c .is-placed .ensures) ∙ c .if-not-is-placed .left in
+    ap (λ z. placed (c .args .season) z n) (sym l) ∙ sym (c .is-placed .ensures) ∙ c .if-not-is-placed .left in
     let q : leZ (c .loop-notice .after) (n .minute) ≡ true =
-        let m : SFits w32 (n .minute) = search needs in
-        since (n .minute) _ (c .loop-notice .after) _ false (toZ-ofZ w32 (n .minute) m) (c .loop-notice .after-is) (c .if-notice-after .left) in
+    let m : SFits w32 (n .minute) = search needs in
+    since (n .minute) _ (c .loop-notice .after) _ false (toZ-ofZ w32 (n .minute) m) (c .loop-notice .after-is) (c .if-notice-after .left) in
     let e : SFits w32 (c .end-after .result) = search needs in
     let r = toZ-ofZ w32 (c .end-after .result) e ∙ c .end-after .ensures in
     plain (c .args .season) _ (c .args .low) _ (endOf (c .args .season) n) xs (drop (i + 1) xs) (sym l) (sym r) (sym (both-hold _ _ _ p q) ∙ sym o ∙ h)

@@ -19,10 +19,10 @@ returns-then-byte-lt48 c =
     let w : 0 < length xs = let e = c .if-is-empty .ensures tt in grind (arith, tells) in
     let b = getD xs (c .loop-byte .byte-index) 0 in
     let bad : digit b ≡ false =
-        elim (c .then-byte-lt48 .came) [
-          then-byte-lt48·by·then-byte-lt48 w ↦ let h = w .if-byte-lt48 .taken in grind (arith, tells)
-        | then-byte-lt48·by·else-byte-lt48·then-byte-gt57 w ↦ let h = w .if-byte-gt57 .taken in grind (arith, tells)
-        ] in
+    elim (c .then-byte-lt48 .came) [
+      | then-byte-lt48·by·then-byte-lt48 w ↦ let h = w .if-byte-lt48 .taken in grind (arith, tells)
+      | then-byte-lt48·by·else-byte-lt48·then-byte-gt57 w ↦ let h = w .if-byte-gt57 .taken in grind (arith, tells)
+    ] in
     sym (some-word xs w ∙ sym (c .loop-byte .inv .0) ∙ read-stops (c .loop-byte .value) xs (c .loop-byte .byte-index) (c .loop-byte-test .taken) (rw bad))
 
 pub returns-then-value-gt4294967295 : need.returns-then-value-gt4294967295

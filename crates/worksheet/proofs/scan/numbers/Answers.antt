@@ -28,9 +28,10 @@ returns-in-Break-found g c =
 pub loop-i-again : need.loop-i-again
 loop-i-again g c =
     let n = c .in-Continue-found .field-0 in
-    let long : c .loop-i .i < length (c .loop-i .found) = omega (arith, c .loop-i .inv .1, c .loop-i-test .taken) in
-    (one-number (g .N) (c .args .line .now) _ _ (c .loop-i .i) n (mapped now (c .loop-i .rest)) _ _ _ (c .loop-i-test .taken) (ap (mapped now) (c .in-Continue-rest .was tt)) (c .cut .ensures) (sym (c .in-Continue-found .ensures tt)) (take-more-set (c .loop-i .found) (c .loop-i .i) n long) (c .loop-i .inv .0),
-    simp length-set (c .loop-i .inv .1))
+    let long : c .loop-i .i < length (c .loop-i .found) = omega (arith, c .loop-i .inv .1, c .loop-i-test .taken) in (
+      one-number (g .N) (c .args .line .now) _ _ (c .loop-i .i) n (mapped now (c .loop-i .rest)) _ _ _ (c .loop-i-test .taken) (ap (mapped now) (c .in-Continue-rest .was tt)) (c .cut .ensures) (sym (c .in-Continue-found .ensures tt)) (take-more-set (c .loop-i .found) (c .loop-i .i) n long) (c .loop-i .inv .0),
+      simp length-set (c .loop-i .inv .1),
+    )
 
 pub returns-in-Some : need.returns-in-Some
 returns-in-Some g c =
