@@ -2,7 +2,7 @@
 use std::error::AnyError;
 use std::io::Read;
 use std::io::Write;
-use worksheet::report::answer_to;
+use report::print::answer_to;
 
 // Prints the report; a worksheet that is wrong gets the line and the reason on standard error, and status 1.
 fn main(rt: LibcRuntime) -> Result<(), AnyError> {

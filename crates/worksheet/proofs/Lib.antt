@@ -2,4 +2,3 @@ pub mod Adding
 pub mod Counting
 pub mod Ending
 pub mod Scanning
-pub mod Working

@@ -12,7 +12,7 @@ use Rattle.std.specs.declared.result.Result.the-variants.{Ok, Err}
 use Rattle.std.specs.shelf.Text.{sameBytes}
 use Rattle.billing.specs.Schedules.{scheduleAt}
 use Rattle.billing.specs.declared.schedule.Schedule.{Schedule}
-use Rattle.billing.specs.declared.schedule.Schedule.the-variants.{Eight}
+use Rattle.billing.specs.declared.schedule.Schedule.the-variants.{Gs3Ev, Eight}
 use Rattle.calendar.specs.declared.date.CalendarMonth.{CalendarMonth}
 use Rattle.curtailment.specs.declared.standby.StandbyTerms.{StandbyTerms}
 use Rattle.worksheet.specs.Text.{exactly}
@@ -23,8 +23,13 @@ use Rattle.worksheet.specs.declared.header.Plan.{Plan}
 use Rattle.worksheet.specs.declared.header.Plan.the-variants as plan
 use Rattle.worksheet.specs.declared.header.RateTerms.{RateTerms}
 use Rattle.worksheet.specs.declared.header.RateTerms.the-variants as rate
-use Rattle.worksheet.specs.declared.header.Wrong.{Wrong}
-use Rattle.worksheet.specs.declared.header.Wrong.the-variants as wrong
+use Rattle.worksheet.specs.declared.wrong.Wrong.{Wrong}
+use Rattle.worksheet.specs.declared.wrong.Wrong.the-variants as wrong
+
+-- the schedule that a month is billed under
+abbrev pub scheduleIn : RateTerms → Schedule
+scheduleIn (rate.Gs3ev t) = Gs3Ev
+scheduleIn (rate.Entered s) = s
 
 -- the plan that a word names
 abbrev pub planOf : List ℕ → Option Plan
@@ -44,7 +49,7 @@ gs3evHeader (Some ns) =
     cond (leb (getD ns 2 0) 1)
     (Ok (record {
       month = month ns;
-      rate = rate.Gs3ev (eqb (getD ns 2 0) 1) (getD ns 3 0) (getD ns 4 0);
+      rate = rate.Gs3ev (record { supply = eqb (getD ns 2 0) 1; minimum = getD ns 3 0; kept = getD ns 4 0 });
       rider = getD ns 5 0;
       basis = basis.NoBasis;
       entered = 0;

@@ -1,5 +1,4 @@
 pub mod Headers
-pub mod Reports
 pub mod Sheets
 pub mod Text
-pub mod Works
+pub mod Wrongs

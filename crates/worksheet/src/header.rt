@@ -1,10 +1,11 @@
 // The first line of a worksheet: the plan, the month and the terms.
 ghost use mathlib.Core.Path.{_≡_};
-ghost use Rattle.worksheet.specs.Headers.{planOf, headerOf, gs3evHeader, enteredHeader, meteredHeader, standbyHeader};
+ghost use Rattle.worksheet.specs.Headers.{scheduleIn, planOf, headerOf, gs3evHeader, enteredHeader, meteredHeader, standbyHeader};
 ghost use Rattle.std.specs.shelf.Text.{sameBytes};
 ghost use Rattle.worksheet.specs.Text.{pieces, exactly};
 use crate::scan::cut;
 use crate::scan::numbers;
+use crate::wrong::Wrong;
 use billing::schedule::Schedule;
 use calendar::date::CalendarMonth;
 use curtailment::standby::StandbyTerms;
@@ -18,11 +19,31 @@ pub enum Plan {
     Standby,
 }
 
-// The terms of the rate: GS-3EV with or without supply, its minimum demand and the highest peak of the months before, or an entered bill.
+// The terms of GS-3EV: whether the Company supplies the energy, the minimum demand, and the highest peak of the 11 months before.
+#[derive(Clone, Copy)]
+pub struct Gs3evTerms {
+    pub supply: bool,
+    pub minimum: u32,
+    pub kept: u32,
+}
+
+// The terms of the rate: GS-3EV, or an entered bill of another schedule.
 #[derive(Clone, Copy)]
 pub enum RateTerms {
-    Gs3ev(bool, u32, u32),
+    Gs3ev(Gs3evTerms),
     Entered(Schedule),
+}
+
+impl RateTerms {
+    // The schedule that the month is billed under.
+    pub fn schedule(&self) -> Schedule
+        ensures { λ r. ⌜ r ≡ scheduleIn (now (self .entry)) ⌝ }
+    {
+        match self {
+            RateTerms::Gs3ev(_) => Schedule::Gs3Ev,
+            RateTerms::Entered(schedule) => *schedule,
+        }
+    }
 }
 
 // The terms of the basis, with the firm demand of the month's season.
@@ -44,21 +65,6 @@ pub struct Header {
     // the cents of an entered bill, and the supplementary billing demand
     pub entered: u32,
     pub supplementary: u32,
-}
-
-// What can be wrong with a worksheet.
-#[derive(Clone, Copy)]
-pub enum Wrong {
-    Plan,
-    Terms,
-    Supply,
-    Code,
-    Month,
-    Readings,
-    Missing,
-    More,
-    Limits,
-    Basis,
 }
 
 // Whether a word is a name.
@@ -100,9 +106,10 @@ fn gs3ev_header(line: &[u8]) -> Result<Header, Wrong>
     if supply > 1 {
         return Err(Wrong::Supply);
     }
+    let gs3ev = Gs3evTerms { supply: supply == 1, minimum, kept };
     Ok(Header {
         month: CalendarMonth { year, month },
-        rate: RateTerms::Gs3ev(supply == 1, minimum, kept),
+        rate: RateTerms::Gs3ev(gs3ev),
         rider,
         basis: BasisTerms::NoBasis,
         entered: 0,

@@ -1,6 +1,5 @@
-// A month's worksheet: its text with terms and readings in, its bill and credit as a report out.
+// A month's worksheet as text: the plan, month and terms in the first line, then a line of readings for each day.
 pub mod header;
-pub mod report;
 pub mod scan;
 pub mod sheet;
-pub mod work;
+pub mod wrong;

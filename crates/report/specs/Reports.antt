@@ -14,18 +14,18 @@ use Rattle.billing.specs.declared.figures.Figures.{Figures}
 use Rattle.rates.specs.Gs3ev.{billing}
 use Rattle.rates.specs.declared.gs3ev.Billing.{Billing}
 use Rattle.rates.specs.declared.gs3ev.Billing.the-variants as billing
 use Rattle.worksheet.specs.Sheets.{sheetOf}
 use Rattle.worksheet.specs.Text.{pieces}
-use Rattle.worksheet.specs.Works.{workedOf}
+use Rattle.worksheet.specs.Wrongs.{reason}
+use Rattle.report.specs.Works.{workedOf}
 use Rattle.worksheet.specs.declared.header.RateTerms.{RateTerms}
 use Rattle.worksheet.specs.declared.header.RateTerms.the-variants as rate
-use Rattle.worksheet.specs.declared.header.Wrong.{Wrong}
-use Rattle.worksheet.specs.declared.header.Wrong.the-variants as wrong
-use Rattle.worksheet.specs.declared.report.Way.{Way}
-use Rattle.worksheet.specs.declared.report.Way.the-variants as ways
+use Rattle.worksheet.specs.declared.wrong.Wrong.{Wrong}
+use Rattle.report.specs.declared.print.Way.{Way}
+use Rattle.report.specs.declared.print.Way.the-variants as ways
 use Rattle.worksheet.specs.declared.sheet.Fault.{Fault}
 use Rattle.worksheet.specs.declared.sheet.Sheet.{Sheet}
-use Rattle.worksheet.specs.declared.work.Worked.{Worked}
+use Rattle.report.specs.declared.work.Worked.{Worked}
 
 -- dollars, a point, and two digits of cents
 abbrev pub amount : ℕ → List ℕ
@@ -37,7 +37,7 @@ wayBy billing.Demand = ways.Demand
 
 -- how a month was billed
 abbrev pub wayOf : RateTerms → Figures → Way
-wayOf (rate.Gs3ev supply minimum kept) m = wayBy (billing m)
+wayOf (rate.Gs3ev t) m = wayBy (billing m)
 wayOf (rate.Entered s) m = ways.Entered
 
 abbrev pub way : Way → List ℕ
@@ -45,29 +45,17 @@ way ways.NonDemand = codes "non-demand"
 way ways.Demand = codes "demand"
 way ways.Entered = codes "entered"
 
--- what is wrong, in words
-abbrev pub reason : Wrong → List ℕ
-reason wrong.Plan = codes "the first word is not gs3ev, entered, metered or standby"
-reason wrong.Terms = codes "after the plan stand not just its numbers, one space before each"
-reason wrong.Supply = codes "supply is not 1 or 0"
-reason wrong.Code = codes "the schedule code is not 1 to 9"
-reason wrong.Month = codes "the month is not 1 to 12, or the year not 2000 to 2099"
-reason wrong.Readings = codes "a day has not just 48 readings of 0 to 100000 kW, a space between each two"
-reason wrong.Missing = codes "a day is missing"
-reason wrong.More = codes "more lines than the month has days"
-reason wrong.Limits = codes "a term is outside its limits (refusal 1)"
-reason wrong.Basis = codes "the basis is not open to the schedule (refusal 5)"
-
 -- the month and its days
 abbrev pub monthLine : Sheet → List ℕ
 monthLine s =
     codes "MONTH "
     ++ (decimal (s .header .month .year)
     ++ (codes "-"
-    ++ (decimal (s .header .month .month)
+    ++ (decimal (s .header .month .month / 10)
+    ++ (decimal (s .header .month .month % 10)
     ++ (codes " OF "
     ++ (decimal (s .figures .days)
-    ++ codes " DAYS\n")))))
+    ++ codes " DAYS\n"))))))
 
 -- its energy in kWh, of which a reading is half, and its demand
 abbrev pub measures : Figures → List ℕ

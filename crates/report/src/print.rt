@@ -4,12 +4,11 @@ ghost use mathlib.Core.Path.{_≡_};
 ghost use Rattle.std.specs.Of.String.{string-bytes};
 ghost use Rattle.std.specs.Vec.{made};
 ghost use Rattle.std.specs.declared.option.Option.the-variants.{Some};
-ghost use Rattle.worksheet.specs.Reports.{amount, reason, way, wayOf, monthLine, measures, sums, creditLine, reportOf, faultLine, Answers};
-use crate::header::RateTerms;
-use crate::header::Wrong;
-use crate::sheet::Fault;
-use crate::sheet::Sheet;
-use crate::sheet::read_sheet;
+ghost use Rattle.report.specs.Reports.{amount, way, wayOf, monthLine, measures, sums, creditLine, reportOf, faultLine, Answers};
+use worksheet::header::RateTerms;
+use worksheet::sheet::Fault;
+use worksheet::sheet::Sheet;
+use worksheet::sheet::read_sheet;
 use crate::work::Worked;
 use crate::work::work;
 use billing::amount::cents;
@@ -49,7 +48,7 @@ impl Way {
     {
         match rate {
             RateTerms::Entered(_) => Way::Entered,
-            RateTerms::Gs3ev(_, _, _) => match Billing::of_month(figures) {
+            RateTerms::Gs3ev(_) => match Billing::of_month(figures) {
                 Billing::NonDemand => Way::NonDemand,
                 Billing::Demand => Way::Demand,
             },
@@ -68,35 +67,15 @@ impl Way {
     }
 }
 
-impl Wrong {
-    // What is wrong, in words.
-    pub fn reason(self) -> &'static str
-        ensures { λ r. ⌜ now r ≡ reason self ⌝ }
-    {
-        match self {
-            Wrong::Plan => "the first word is not gs3ev, entered, metered or standby",
-            Wrong::Terms => "after the plan stand not just its numbers, one space before each",
-            Wrong::Supply => "supply is not 1 or 0",
-            Wrong::Code => "the schedule code is not 1 to 9",
-            Wrong::Month => "the month is not 1 to 12, or the year not 2000 to 2099",
-            Wrong::Readings =>
-                "a day has not just 48 readings of 0 to 100000 kW, a space between each two",
-            Wrong::Missing => "a day is missing",
-            Wrong::More => "more lines than the month has days",
-            Wrong::Limits => "a term is outside its limits (refusal 1)",
-            Wrong::Basis => "the basis is not open to the schedule (refusal 5)",
-        }
-    }
-}
-
 // The line of the month.
 fn month_line(heap: Global, sheet: &Sheet) -> Result<String, AllocError>
     ensures { λ r. ⌜ made r (λ s. string-bytes s ≡ monthLine (now (sheet .entry))) ⌝ }
 {
     let year = sheet.header.month.year;
-    let month = sheet.header.month.month;
+    let tens = sheet.header.month.month / 10;
+    let ones = sheet.header.month.month % 10;
     let days = sheet.figures.days;
-    format!(heap, "MONTH {year}-{month} OF {days} DAYS\n")
+    format!(heap, "MONTH {year}-{tens}{ones} OF {days} DAYS\n")
 }
 
 // The lines that say what was measured.

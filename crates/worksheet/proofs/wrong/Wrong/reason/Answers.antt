@@ -1,4 +1,4 @@
-use Rattle.worksheet.proofs.header.Wrong.reason.Needs as need
+use Rattle.worksheet.proofs.wrong.Wrong.reason.Needs as need
 
 pub returns-in-Plan : need.returns-in-Plan
 returns-in-Plan c = rw (c .in-Plan .is)
