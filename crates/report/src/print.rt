@@ -22,7 +22,7 @@ use std::fmt;
 #[derive(Clone, Copy)]
 pub struct Dollars(pub u64);
 
-pub impl fmt::Display for Dollars as DollarsDisplay {
+impl fmt::Display for Dollars as DollarsDisplay {
     ghost shown = { λ d. Some (amount (d .0)) };
 
     fn fmt<W: fmt::Write>(&self, f: &mut fmt::Formatter<W>) -> fmt::Result {
@@ -43,7 +43,7 @@ pub enum Way {
 
 impl Way {
     // GS-3EV bills by demand or not; any other bill is entered.
-    pub fn of_month(rate: &RateTerms, figures: &Figures) -> Way
+    pub(crate) fn of_month(rate: &RateTerms, figures: &Figures) -> Way
         ensures { λ r. ⌜ r ≡ wayOf (now (rate .entry)) (now (figures .entry)) ⌝ }
     {
         match rate {
@@ -56,7 +56,7 @@ impl Way {
     }
 
     // Its word.
-    pub fn word(self) -> &'static str
+    pub(crate) fn word(self) -> &'static str
         ensures { λ r. ⌜ now r ≡ way self ⌝ }
     {
         match self {
@@ -116,7 +116,7 @@ fn credit_line(heap: Global, credit: Option<u64>) -> Result<String, AllocError>
 }
 
 // The report of a worksheet that was worked out.
-pub fn report(heap: Global, sheet: &Sheet, worked: &Worked) -> Result<String, AllocError>
+pub(crate) fn report(heap: Global, sheet: &Sheet, worked: &Worked) -> Result<String, AllocError>
     ensures { λ r. ⌜ made r (λ s. string-bytes s ≡ reportOf (now (sheet .entry)) (now (worked .entry))) ⌝ }
 {
     let mut text = month_line(heap, sheet)?;
@@ -134,7 +134,7 @@ pub fn report(heap: Global, sheet: &Sheet, worked: &Worked) -> Result<String, Al
 }
 
 // The line that is wrong, and why.
-pub fn explain(heap: Global, fault: &Fault) -> Result<String, AllocError>
+pub(crate) fn explain(heap: Global, fault: &Fault) -> Result<String, AllocError>
     ensures { λ r. ⌜ made r (λ s. string-bytes s ≡ faultLine (now (fault .entry))) ⌝ }
 {
     let line = fault.line;

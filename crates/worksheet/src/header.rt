@@ -76,7 +76,7 @@ fn is_word(word: &[u8], name: &[u8]) -> bool
 
 impl Plan {
     // The plan that a word names.
-    pub fn of_word(word: &[u8]) -> Option<Plan>
+    pub(crate) fn of_word(word: &[u8]) -> Option<Plan>
         ensures { λ r. ⌜ r ≡ planOf (now (word .entry)) ⌝ }
     {
         if is_word(word, b"gs3ev") {
@@ -197,7 +197,7 @@ fn standby_header(line: &[u8]) -> Result<Header, Wrong>
 }
 
 // What the first line says, or what is wrong with it.
-pub fn read_header(line: &[u8]) -> Result<Header, Wrong>
+pub(crate) fn read_header(line: &[u8]) -> Result<Header, Wrong>
     ensures { λ r. ⌜ r ≡ headerOf (pieces 32 (now (line .entry))) ⌝ }
 {
     let (word, rest) = cut(line, b' ');

@@ -1,5 +1,5 @@
 // A month's worksheet as text: the plan, month and terms in the first line, then a line of readings for each day.
 pub mod header;
-pub mod scan;
+mod scan;
 pub mod sheet;
 pub mod wrong;

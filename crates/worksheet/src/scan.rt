@@ -5,7 +5,7 @@ ghost use Rattle.std.specs.Options.{mapped};
 ghost use Rattle.worksheet.specs.Text.{pieces, piecesIn, numberOf, exactly};
 
 // The text up to the first byte `stop`, and what comes behind that byte, if there is one.
-pub fn cut(text: &[u8], stop: u8) -> (&[u8], Option<&[u8]>)
+pub(crate) fn cut(text: &[u8], stop: u8) -> (&[u8], Option<&[u8]>)
     ensures { λ r. ⌜ pieces stop (now (text .entry)) ≡ now (r .0) ∷ piecesIn stop (mapped now (r .1)) ⌝ }
 {
     for (i, byte) in text.iter().enumerate() {
@@ -17,7 +17,7 @@ pub fn cut(text: &[u8], stop: u8) -> (&[u8], Option<&[u8]>)
 }
 
 // A number in digits, up to 4,294,967,295.
-pub fn number(word: &[u8]) -> Option<u32>
+pub(crate) fn number(word: &[u8]) -> Option<u32>
     ensures { λ r. ⌜ r ≡ numberOf (now (word .entry)) ⌝ }
 {
     if word.is_empty() {
@@ -37,7 +37,7 @@ pub fn number(word: &[u8]) -> Option<u32>
 }
 
 // The numbers of a line with a space between each two, if it has just N.
-pub fn numbers<const N: usize>(line: &[u8]) -> Option<[u32; N]>
+pub(crate) fn numbers<const N: usize>(line: &[u8]) -> Option<[u32; N]>
     ensures { λ r. ⌜ r ≡ exactly N (pieces 32 (now (line .entry))) ⌝ }
 {
     let mut found = [0u32; N];
