@@ -1,8 +1,8 @@
 // Bills one month: reads a worksheet from standard input and prints its report.
+use report::print::answer_to;
 use std::error::AnyError;
 use std::io::Read;
 use std::io::Write;
-use report::print::answer_to;
 
 // Prints the report; a worksheet that is wrong gets the line and the reason on standard error, and status 1.
 fn main(rt: LibcRuntime) -> Result<(), AnyError> {

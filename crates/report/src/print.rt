@@ -5,10 +5,6 @@ ghost use Rattle.std.specs.Of.String.{string-bytes};
 ghost use Rattle.std.specs.Vec.{made};
 ghost use Rattle.std.specs.declared.option.Option.the-variants.{Some};
 ghost use Rattle.report.specs.Reports.{amount, way, wayOf, monthLine, measures, sums, creditLine, reportOf, faultLine, Answers};
-use worksheet::header::RateTerms;
-use worksheet::sheet::Fault;
-use worksheet::sheet::Sheet;
-use worksheet::sheet::read_sheet;
 use crate::work::Worked;
 use crate::work::work;
 use billing::amount::cents;
@@ -17,6 +13,10 @@ use rates::gs3ev::Billing;
 use std::alloc::AllocError;
 use std::alloc::Global;
 use std::fmt;
+use worksheet::header::RateTerms;
+use worksheet::sheet::Fault;
+use worksheet::sheet::Sheet;
+use worksheet::sheet::read_sheet;
 
 // An amount in cents, shown as dollars with two digits of cents.
 #[derive(Clone, Copy)]

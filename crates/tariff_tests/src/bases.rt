@@ -14,12 +14,27 @@ use curtailment::standby::money::StandbyBasis;
 use std::test::*;
 
 fn month(supplementary: u32, curtailable: u32, halves: u32) -> Option<Month> {
-    Month::new(Figures { number: 7, days: 31, energy: 1_500_000, peak: 1_500, supplementary, entered: 0, curtailable, halves }).ok()
+    Month::new(Figures {
+        number: 7,
+        days: 31,
+        energy: 1_500_000,
+        peak: 1_500,
+        supplementary,
+        entered: 0,
+        curtailable,
+        halves,
+    }).ok()
 }
 
 // 1,000 kW in summer, 800 in winter, 500 standby, 1,500 combined, 1,750 hours.
 fn plant() -> Option<Standby> {
-    Standby::new(StandbyTerms { summer: 1_000, winter: 800, standby: 500, combined: 1_500, hours: 1_750 }).ok()
+    Standby::new(StandbyTerms {
+        summer: 1_000,
+        winter: 800,
+        standby: 500,
+        combined: 1_500,
+        hours: 1_750,
+    }).ok()
 }
 
 // The metered credit of a month with this sum and number of readings in the windows.
@@ -74,9 +89,16 @@ fn metered_failures() -> Result<(), Fail> {
         (SeasonKind::Winter, 700, 1_000, 217_170),
     ];
     for (season, firm, demand, cents) in cases {
-        check_eq(Metered.failure_charge(season, firm, demand).ok(), Some(cents))?;
+        check_eq(
+            Metered.failure_charge(season, firm, demand).ok(),
+            Some(cents),
+        )?;
     }
-    check(Metered.failure_charge(SeasonKind::Winter, 0, 100_001).is_err())
+    check(
+        Metered
+            .failure_charge(SeasonKind::Winter, 0, 100_001)
+            .is_err(),
+    )
 }
 
 // The firm demand at the supplementary demand and above it, at the combined demand and above it.
@@ -132,6 +154,12 @@ fn what_each_basis_is_open_to() -> Result<(), Fail> {
     check_eq(Metered.monthly_charge(), 4_720)?;
     check_eq(NoBasis.monthly_charge(), 0)?;
     check(Metered.admits_firm_demand() && !NoBasis.admits_firm_demand())?;
-    let wide = StandbyTerms { summer: 1_000, winter: 800, standby: 500, combined: 1_501, hours: 1_750 };
+    let wide = StandbyTerms {
+        summer: 1_000,
+        winter: 800,
+        standby: 500,
+        combined: 1_501,
+        hours: 1_750,
+    };
     check(Standby::new(wide).is_err())
 }

@@ -9,8 +9,18 @@ use std::test::*;
 // The season that holds a day: 0 for none, 1 for a summer, 2 for a winter, and the year in which it began.
 fn season(d: &Date) -> (u32, u32) {
     match d.season() {
-        Some(Season { kind: SeasonKind::Summer, year }) => (1, year),
-        Some(Season { kind: SeasonKind::Winter, year }) => (2, year),
+        Some(
+            Season {
+                kind: SeasonKind::Summer,
+                year,
+            },
+        ) => (1, year),
+        Some(
+            Season {
+                kind: SeasonKind::Winter,
+                year,
+            },
+        ) => (2, year),
         None => (0, 0),
     }
 }

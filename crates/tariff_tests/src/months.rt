@@ -11,7 +11,16 @@ use std::test::*;
 // Whether a month is accepted: number, days, energy, peak, supplementary, entered, sum and count in windows.
 fn accepted(f: (u32, u32, u32, u32, u32, u32, u32, u32)) -> bool {
     let (number, days, energy, peak, supplementary, entered, curtailable, halves) = f;
-    Month::new(Figures { number, days, energy, peak, supplementary, entered, curtailable, halves }).is_ok()
+    Month::new(Figures {
+        number,
+        days,
+        energy,
+        peak,
+        supplementary,
+        entered,
+        curtailable,
+        halves,
+    }).is_ok()
 }
 
 #[test]
@@ -19,7 +28,16 @@ fn limits_of_a_month() -> Result<(), Fail> {
     let good = [
         (2, 28, 0, 0, 0, 0, 0, 0),
         (2, 29, 100, 100, 0, 0, 0, 0),
-        (1, 31, 148_800_000, 100_000, 100_000, 4_000_000_000, 62_000_000, 620),
+        (
+            1,
+            31,
+            148_800_000,
+            100_000,
+            100_000,
+            4_000_000_000,
+            62_000_000,
+            620,
+        ),
         (4, 30, 1_440, 1, 0, 0, 600, 600),
     ];
     for f in good {
@@ -62,9 +80,15 @@ fn figures_of_a_day() -> Result<(), Fail> {
     let winter = day_figures(&day, Some(SeasonKind::Winter)).ok_or("refused")?;
     check_eq(winter.curtailable, 3_050)?;
     check_eq(winter.halves, 20)?;
-    let late = Notice { minute: 1_170, release: None };
+    let late = Notice {
+        minute: 1_170,
+        release: None,
+    };
     check_eq(late.demand(SeasonKind::Summer, &day), Some(600))?;
-    let later = Notice { minute: 1_201, release: None };
+    let later = Notice {
+        minute: 1_201,
+        release: None,
+    };
     check_eq(later.demand(SeasonKind::Summer, &day), None)?;
     day[0] = 100_001;
     check(day_figures(&day, None).is_none())?;

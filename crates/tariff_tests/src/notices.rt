@@ -9,7 +9,11 @@ use std::test::*;
 // The first half hour of a notice and how many it has.
 fn halves(season: SeasonKind, minute: i32, release: Option<i32>) -> Option<(usize, usize)> {
     let h = Notice { minute, release }.period(season)?.half_hours();
-    if h.first < h.past { Some((h.first, h.past - h.first)) } else { Some((0, 0)) }
+    if h.first < h.past {
+        Some((h.first, h.past - h.first))
+    } else {
+        Some((0, 0))
+    }
 }
 
 #[test]
@@ -33,7 +37,10 @@ fn summer_notices() -> Result<(), Fail> {
         (900, Some(960), 31, 1),
     ];
     for (minute, release, first, count) in cases {
-        check_eq(halves(SeasonKind::Summer, minute, release), Some((first, count)))?;
+        check_eq(
+            halves(SeasonKind::Summer, minute, release),
+            Some((first, count)),
+        )?;
     }
     check_eq(halves(SeasonKind::Summer, 1_260, None), None)
 }
@@ -57,7 +64,10 @@ fn winter_notices() -> Result<(), Fail> {
         (700, Some(1_019), 0, 0),
     ];
     for (minute, release, first, count) in cases {
-        check_eq(halves(SeasonKind::Winter, minute, release), Some((first, count)))?;
+        check_eq(
+            halves(SeasonKind::Winter, minute, release),
+            Some((first, count)),
+        )?;
     }
     check_eq(halves(SeasonKind::Winter, 1_320, None), None)
 }
@@ -71,17 +81,29 @@ fn refusal(year: u32, month: u32, day: u32, firm: &FirmDemands, notices: &[Notic
 }
 
 fn at(minute: i32) -> Notice {
-    Notice { minute, release: None }
+    Notice {
+        minute,
+        release: None,
+    }
 }
 
 fn until(minute: i32, release: i32) -> Notice {
-    Notice { minute, release: Some(release) }
+    Notice {
+        minute,
+        release: Some(release),
+    }
 }
 
 #[test]
 fn seasons_and_elections() -> Result<(), Fail> {
-    let both = FirmDemands { summer: Some(400), winter: Some(400) };
-    let summer = FirmDemands { summer: Some(400), winter: None };
+    let both = FirmDemands {
+        summer: Some(400),
+        winter: Some(400),
+    };
+    let summer = FirmDemands {
+        summer: Some(400),
+        winter: None,
+    };
     check_eq(refusal(2024, 5, 15, &both, &[at(0)]), 11)?;
     check_eq(refusal(2024, 5, 15, &both, &[]), 0)?;
     check_eq(refusal(2024, 5, 16, &both, &[at(0)]), 0)?;
@@ -101,7 +123,10 @@ fn seasons_and_elections() -> Result<(), Fail> {
 
 #[test]
 fn order_and_releases() -> Result<(), Fail> {
-    let firm = FirmDemands { summer: Some(400), winter: Some(400) };
+    let firm = FirmDemands {
+        summer: Some(400),
+        winter: Some(400),
+    };
     check_eq(refusal(2024, 7, 1, &firm, &[at(1_259)]), 0)?;
     check_eq(refusal(2024, 7, 1, &firm, &[at(1_260)]), 12)?;
     check_eq(refusal(2024, 1, 5, &firm, &[at(1_319)]), 0)?;
@@ -114,6 +139,30 @@ fn order_and_releases() -> Result<(), Fail> {
     check_eq(refusal(2024, 7, 1, &firm, &[at(900), at(901)]), 12)?;
     check_eq(refusal(2024, 1, 5, &firm, &[at(650), at(660)]), 0)?;
     check_eq(refusal(2024, 1, 5, &firm, &[at(650), at(659)]), 12)?;
-    check_eq(refusal(2024, 7, 1, &firm, &[until(0, 1), until(1, 2), until(2, 3), until(3, 4)]), 0)?;
-    check_eq(refusal(2024, 7, 1, &firm, &[until(0, 1), until(1, 2), until(2, 3), until(3, 4), until(4, 5)]), 12)
+    check_eq(
+        refusal(
+            2024,
+            7,
+            1,
+            &firm,
+            &[until(0, 1), until(1, 2), until(2, 3), until(3, 4)],
+        ),
+        0,
+    )?;
+    check_eq(
+        refusal(
+            2024,
+            7,
+            1,
+            &firm,
+            &[
+                until(0, 1),
+                until(1, 2),
+                until(2, 3),
+                until(3, 4),
+                until(4, 5),
+            ],
+        ),
+        12,
+    )
 }

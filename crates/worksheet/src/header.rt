@@ -106,7 +106,11 @@ fn gs3ev_header(line: &[u8]) -> Result<Header, Wrong>
     if supply > 1 {
         return Err(Wrong::Supply);
     }
-    let gs3ev = Gs3evTerms { supply: supply == 1, minimum, kept };
+    let gs3ev = Gs3evTerms {
+        supply: supply == 1,
+        minimum,
+        kept,
+    };
     Ok(Header {
         month: CalendarMonth { year, month },
         rate: RateTerms::Gs3ev(gs3ev),

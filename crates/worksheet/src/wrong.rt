@@ -23,8 +23,10 @@ pub enum Wrong {
 pub impl From<TermsFault> for Wrong as WrongFromTerms {
     ghost converts = { λ _ r. r ≡ Limits };
 
-    fn from(_fault: TermsFault) -> Wrong {
-        Wrong::Limits
+    fn from(fault: TermsFault) -> Wrong {
+        match fault {
+            TermsFault::OutsideLimits => Wrong::Limits,
+        }
     }
 }
 
