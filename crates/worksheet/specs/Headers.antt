@@ -58,20 +58,21 @@ gs3evHeader (Some ns) =
     (Err wrong.Supply)
 
 -- an entered bill of a schedule, if its code is one
-abbrev entering : List ℕ → BasisTerms → Option Schedule → Result Header Wrong
-entering ns b None = Err wrong.Code
-entering ns b (Some s) =
-    Ok (record { month = month ns; rate = rate.Entered s; rider = getD ns 4 0; basis = b; entered = getD ns 3 0; supplementary = 0 })
+abbrev pub entering : CalendarMonth → ℕ → ℕ → BasisTerms → Option Schedule → Result Header Wrong
+entering m entered rider b None = Err wrong.Code
+entering m entered rider b (Some s) =
+    Ok (record { month = m; rate = rate.Entered s; rider = rider; basis = b; entered = entered; supplementary = 0 })
 
 -- YEAR MONTH CODE CENTS RIDER
 abbrev pub enteredHeader : Option (List ℕ) → Result Header Wrong
 enteredHeader None = Err wrong.Terms
-enteredHeader (Some ns) = entering ns basis.NoBasis (scheduleAt (getD ns 2 0))
+enteredHeader (Some ns) = entering (month ns) (getD ns 3 0) (getD ns 4 0) basis.NoBasis (scheduleAt (getD ns 2 0))
 
 -- YEAR MONTH CODE CENTS RIDER FIRM
 abbrev pub meteredHeader : Option (List ℕ) → Result Header Wrong
 meteredHeader None = Err wrong.Terms
-meteredHeader (Some ns) = entering ns (basis.Metered (getD ns 5 0)) (scheduleAt (getD ns 2 0))
+meteredHeader (Some ns) =
+    entering (month ns) (getD ns 3 0) (getD ns 4 0) (basis.Metered (getD ns 5 0)) (scheduleAt (getD ns 2 0))
 
 -- YEAR MONTH CENTS RIDER SUMMER WINTER STANDBY COMBINED HOURS SUPPLEMENTARY FIRM, under Schedule 8
 abbrev pub standbyHeader : Option (List ℕ) → Result Header Wrong

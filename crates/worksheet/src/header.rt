@@ -1,6 +1,7 @@
 // The first line of a worksheet: the plan, the month and the terms.
 ghost use mathlib.Core.Path.{_≡_};
-ghost use Rattle.worksheet.specs.Headers.{scheduleIn, planOf, headerOf, gs3evHeader, enteredHeader, meteredHeader, standbyHeader};
+ghost use Rattle.worksheet.specs.Headers.{scheduleIn, planOf, entering, headerOf, gs3evHeader, enteredHeader, meteredHeader, standbyHeader};
+ghost use Rattle.billing.specs.Schedules.{scheduleAt};
 ghost use Rattle.std.specs.shelf.Text.{sameBytes};
 ghost use Rattle.worksheet.specs.Text.{pieces, exactly};
 use crate::scan::cut;
@@ -121,6 +122,29 @@ fn gs3ev_header(line: &[u8]) -> Result<Header, Wrong>
     })
 }
 
+// An entered bill of the schedule with a code, if there is one.
+fn entering(
+    month: CalendarMonth,
+    code: u32,
+    entered: u32,
+    rider: u32,
+    basis: BasisTerms,
+) -> Result<Header, Wrong>
+    ensures { λ r. ⌜ r ≡ entering month entered rider basis (scheduleAt code) ⌝ }
+{
+    let Some(schedule) = Schedule::of_code(code) else {
+        return Err(Wrong::Code);
+    };
+    Ok(Header {
+        month,
+        rate: RateTerms::Entered(schedule),
+        rider,
+        basis,
+        entered,
+        supplementary: 0,
+    })
+}
+
 // entered YEAR MONTH CODE CENTS RIDER
 fn entered_header(line: &[u8]) -> Result<Header, Wrong>
     ensures { λ r. ⌜ r ≡ enteredHeader (exactly 5 (pieces 32 (now (line .entry)))) ⌝ }
@@ -129,17 +153,13 @@ fn entered_header(line: &[u8]) -> Result<Header, Wrong>
         return Err(Wrong::Terms);
     };
     let [year, month, code, entered, rider] = terms;
-    let Some(schedule) = Schedule::of_code(code) else {
-        return Err(Wrong::Code);
-    };
-    Ok(Header {
-        month: CalendarMonth { year, month },
-        rate: RateTerms::Entered(schedule),
-        rider,
-        basis: BasisTerms::NoBasis,
+    entering(
+        CalendarMonth { year, month },
+        code,
         entered,
-        supplementary: 0,
-    })
+        rider,
+        BasisTerms::NoBasis,
+    )
 }
 
 // metered YEAR MONTH CODE CENTS RIDER FIRM
@@ -150,17 +170,13 @@ fn metered_header(line: &[u8]) -> Result<Header, Wrong>
         return Err(Wrong::Terms);
     };
     let [year, month, code, entered, rider, firm] = terms;
-    let Some(schedule) = Schedule::of_code(code) else {
-        return Err(Wrong::Code);
-    };
-    Ok(Header {
-        month: CalendarMonth { year, month },
-        rate: RateTerms::Entered(schedule),
-        rider,
-        basis: BasisTerms::Metered(firm),
+    entering(
+        CalendarMonth { year, month },
+        code,
         entered,
-        supplementary: 0,
-    })
+        rider,
+        BasisTerms::Metered(firm),
+    )
 }
 
 // standby YEAR MONTH CENTS RIDER SUMMER WINTER STANDBY COMBINED HOURS SUPPLEMENTARY FIRM
