@@ -21,10 +21,10 @@ turn low xs i b x t within is inv =
     ap (λ y. best low (cond (low b y) y b) (drop (i + 1) xs)) is ∙ sym (at-drop-more (best low b) xs i x within) ∙ inv
 
 -- the whole list from its first item and the rest
-pub whole : {X : Type 0} (low : X → X → Bool) (xs : List X) (x : X) → 1 ≤ length xs → x ≡ getD xs 0 x
-    → highest low xs ≡ Some (best low x (drop 1 xs))
-whole low [] x h is = absurd (omega arith)
-whole low (y ∷ xs) x h is = ap (λ z. Some (best low z xs)) (sym is)
+pub whole : {X : Type 0} (low : X → X → Bool) (xs : List X) (d : X) → 1 ≤ length xs
+    → highest low xs ≡ Some (best low (getD xs 0 d) (drop 1 xs))
+whole low [] d h = absurd (omega arith)
+whole low (x ∷ xs) d h = refl
 
 module _ {X : Type 0} (low : X → X → Bool) (order : Order low) where
   same : (x : X) → low x x ≡ false

@@ -34,6 +34,6 @@ returns g c =
     let xs = c .args .items .now in
     let ys = take (length xs - 1) (drop 1 xs) in
     let end = at-drop-all (best low (c .loop-item .best .now)) ys (c .loop-item .item-index) (c .loop-item-test .left) in
-    let t = whole low xs (c .first-item .result) (search needs) (c .first-item .is) in
-    let v = ap Some (sym end ∙ c .loop-item .inv ∙ ap (best low (c .first-item .result)) (take-rest xs 1)) ∙ sym t in
+    let n : 1 ≤ length xs = search needs in
+    let v = ap Some (sym end ∙ c .loop-item .inv ∙ ap (best low _) (take-rest xs 1)) ∙ sym (whole low xs _ n) in
     record { value = v; leads = highest-leads low (by-kw (g .T·Demand .kw)) xs _ (sym v) }
