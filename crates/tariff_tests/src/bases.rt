@@ -1,17 +1,17 @@
 // Credits and failure charges of the metered and the standby basis, and what each basis is open to.
-use billing::figures::Figures;
-use billing::month::Month;
-use billing::schedule::Schedule;
-use calendar::season::SeasonKind;
-use curtailment::basis::Basis;
-use curtailment::metered::Metered;
-use curtailment::metered::MeteredBasis;
-use curtailment::none::NoBasis;
-use curtailment::none::NoBasisBasis;
-use curtailment::standby::Standby;
-use curtailment::standby::StandbyTerms;
-use curtailment::standby::money::StandbyBasis;
 use std::test::*;
+use tariff::Basis;
+use tariff::Figures;
+use tariff::Metered;
+use tariff::MeteredBasis;
+use tariff::Month;
+use tariff::NoBasis;
+use tariff::NoBasisBasis;
+use tariff::Schedule;
+use tariff::SeasonKind;
+use tariff::Standby;
+use tariff::StandbyBasis;
+use tariff::StandbyTerms;
 
 fn month(supplementary: u32, curtailable: u32, halves: u32) -> Option<Month> {
     Month::new(Figures {

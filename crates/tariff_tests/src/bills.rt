@@ -1,16 +1,16 @@
 // Bills of GS-3EV: the line between the billings, the floor, the blocks, the minimum demand and the kept months.
-use billing::figures::Figures;
-use billing::month::Month;
-use billing::schedule::Schedule;
-use rates::bill::base_bill;
-use rates::entered::Entered;
-use rates::entered::make::EnteredRate;
-use rates::gs3ev::Gs3ev;
-use rates::gs3ev::make::Gs3evRate;
-use rates::rate::Rate;
-use rates::rider::Rider;
-use rates::rider::make::RiderRate;
 use std::test::*;
+use tariff::Entered;
+use tariff::EnteredRate;
+use tariff::Figures;
+use tariff::Gs3ev;
+use tariff::Gs3evRate;
+use tariff::Month;
+use tariff::Rate;
+use tariff::Rider;
+use tariff::RiderRate;
+use tariff::Schedule;
+use tariff::base_bill;
 
 fn month(number: u32, days: u32, peak: u32, energy: u32, entered: u32) -> Option<Month> {
     Month::new(Figures {

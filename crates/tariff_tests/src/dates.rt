@@ -1,10 +1,10 @@
 // Day numbers, months and seasons at their edges.
-use calendar::date::CalendarMonth;
-use calendar::date::Date;
-use calendar::number::date_of;
-use calendar::season::Season;
-use calendar::season::SeasonKind;
 use std::test::*;
+use tariff::CalendarMonth;
+use tariff::Date;
+use tariff::Season;
+use tariff::SeasonKind;
+use tariff::date_of;
 
 // The season that holds a day: 0 for none, 1 for a summer, 2 for a winter, and the year in which it began.
 fn season(d: &Date) -> (u32, u32) {

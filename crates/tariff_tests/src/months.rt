@@ -1,12 +1,12 @@
 // The limits of a month's figures, and the figures of a day.
-use billing::figures::Figures;
-use billing::highest::ReadingDemand;
-use billing::highest::highest;
-use billing::month::Month;
-use calendar::season::SeasonKind;
-use metering::day::day_figures;
-use metering::notice::Notice;
 use std::test::*;
+use tariff::Figures;
+use tariff::Month;
+use tariff::Notice;
+use tariff::ReadingDemand;
+use tariff::SeasonKind;
+use tariff::day_figures;
+use tariff::highest;
 
 // Whether a month is accepted: number, days, energy, peak, supplementary, entered, sum and count in windows.
 fn accepted(f: (u32, u32, u32, u32, u32, u32, u32, u32)) -> bool {

@@ -1,10 +1,10 @@
 // Notices of every shape, the half hours of each, and which notices a day may have.
-use calendar::date::Date;
-use calendar::season::SeasonKind;
-use metering::accept::accept;
-use metering::firm::FirmDemands;
-use metering::notice::Notice;
 use std::test::*;
+use tariff::Date;
+use tariff::FirmDemands;
+use tariff::Notice;
+use tariff::SeasonKind;
+use tariff::accept;
 
 // The first half hour of a notice and how many it has.
 fn halves(season: SeasonKind, minute: i32, release: Option<i32>) -> Option<(usize, usize)> {
