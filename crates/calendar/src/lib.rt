@@ -1,4 +1,5 @@
 // The calendar: day numbers, dates, months and their lengths, and the seasons of curtailment.
+#![tactic(auto)]
 pub mod date;
 pub mod laws;
 pub mod length;

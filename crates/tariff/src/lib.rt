@@ -1,4 +1,5 @@
 // The tariff rules as one library: what a site is billed, what curtailment earns and costs, and the worked figures.
+#![tactic(auto)]
 pub mod worked;
 
 pub use billing::amount::cents;

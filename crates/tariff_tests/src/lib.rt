@@ -1,4 +1,5 @@
 // Boundary cases of the calendar and the tariff as tables; `tools/expected.py` works the expected values independently.
+#![tactic(auto)]
 #[cfg(test)]
 mod bases;
 #[cfg(test)]
