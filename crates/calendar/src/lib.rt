@@ -1,5 +1,6 @@
 // The calendar: day numbers, dates, months and their lengths, and the seasons of curtailment.
 #![tactic(auto)]
+
 pub mod date;
 pub mod laws;
 pub mod length;

@@ -1,5 +1,6 @@
 // What curtailment earns and costs: the basis trait, the metered and the standby basis, and none.
 #![tactic(auto)]
+
 pub mod basis;
 pub mod metered;
 pub mod none;

@@ -1,5 +1,6 @@
 // Half-hour readings and notices: curtailment windows and periods, the figures of a day, and which notices a day may have.
 #![tactic(auto)]
+
 pub mod accept;
 pub mod day;
 pub mod firm;

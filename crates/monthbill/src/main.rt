@@ -1,5 +1,6 @@
 // Bills one month: reads a worksheet from standard input and prints its report.
 #![tactic(auto)]
+
 use anyhow::anyhow;
 use report::print::answer_to;
 use std::io::{Read, Write};

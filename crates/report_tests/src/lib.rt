@@ -1,4 +1,5 @@
 // Worksheets right and wrong, and what is printed of each.
 #![tactic(auto)]
+
 #[cfg(test)]
 mod answers;

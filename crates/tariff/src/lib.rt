@@ -1,5 +1,6 @@
 // The tariff rules as one library: what a site is billed, what curtailment earns and costs, and the worked figures.
 #![tactic(auto)]
+
 pub mod worked;
 
 pub use billing::amount::cents;

@@ -1,5 +1,6 @@
 // Boundary cases of the calendar and the tariff as tables; `tools/expected.py` works the expected values independently.
 #![tactic(auto)]
+
 #[cfg(test)]
 mod bases;
 #[cfg(test)]
