@@ -13,8 +13,8 @@ within y k h =
     let m = year_most y in
     omega (arith, g, f, m)
 
-pub overflow-add-days : goal.overflow-add-days
-overflow-add-days c =
+pub overflow_add-days : goal.overflow_add-days
+overflow_add-days c =
     let m = total_more (month_length c.args.year) 1 c.loop-earlier.earlier c.loop-earlier.auto.earlier in
     let w = within c.args.year (c.loop-earlier.earlier + 1 - 1) (omega (arith, c.requires, c.loop-earlier-test.true)) in
     search rules
@@ -22,7 +22,7 @@ overflow-add-days c =
 pub loop-earlier-preserved : goal.loop-earlier-preserved
 loop-earlier-preserved c =
     let m = total_more (month_length c.args.year) 1 c.loop-earlier.earlier c.loop-earlier.auto.earlier in
-    omega (arith, m, c.loop-earlier.invariant, c.month-length-days.ensures.value)
+    omega (arith, m, c.loop-earlier.invariant, c.month_length-days.ensures.value)
 
 pub returns : goal.returns
 returns c =

@@ -8,8 +8,8 @@ use Rattle.calendar.proofs.month.days_before_year.Goals as goal
 within : (k : ℕ) → k ≤ 100 → total year_length 2000 k ≤ 36525
 within k h = let g = total_grows year_length 2000 k 100 h in omega (arith, g)
 
-pub overflow-add-days : goal.overflow-add-days
-overflow-add-days c =
+pub overflow_add-days : goal.overflow_add-days
+overflow_add-days c =
     let m = total_more year_length 2000 c.loop-earlier.earlier c.loop-earlier.auto.earlier in
     let w = within (c.loop-earlier.earlier + 1 - 2000) (omega (arith, c.requires, c.loop-earlier-test.true)) in
     search rules
@@ -17,7 +17,7 @@ overflow-add-days c =
 pub loop-earlier-preserved : goal.loop-earlier-preserved
 loop-earlier-preserved c =
     let m = total_more year_length 2000 c.loop-earlier.earlier c.loop-earlier.auto.earlier in
-    omega (arith, m, c.loop-earlier.invariant, c.year-length-days.ensures)
+    omega (arith, m, c.loop-earlier.invariant, c.year_length-days.ensures)
 
 pub returns : goal.returns
 returns c =

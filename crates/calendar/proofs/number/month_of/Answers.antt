@@ -12,8 +12,8 @@ near y n m rest h here =
     let g = reached_near (month_length y) 1 n m rest here 12 (omega (arith, f)) in
     omega (arith, g)
 
-pub overflow-add-month : goal.overflow-add-month
-overflow-add-month c =
+pub overflow_add-month : goal.overflow_add-month
+overflow_add-month c =
     let h = near c.args.year c.args.day c.loop-rest.month c.loop-rest.rest c.requires c.loop-rest.invariant in
     search rules
 
@@ -21,16 +21,16 @@ pub loop-rest-smaller : goal.loop-rest-smaller
 loop-rest-smaller c =
     let h = near c.args.year c.args.day c.loop-rest.month c.loop-rest.rest c.requires c.loop-rest.invariant in
     let g = month_least c.args.year c.loop-rest.month c.loop-rest.invariant.from h in
-    omega (arith, g, c.month-length.ensures.value, c.loop-rest-test.true, c.month-length-rest.ensures.value)
+    omega (arith, g, c.month_length.ensures.value, c.loop-rest-test.true, c.month_length-rest.ensures.value)
 
 pub loop-rest-preserved : goal.loop-rest-preserved
 loop-rest-preserved c =
-    let l : month_length c.args.year c.loop-rest.month ≤ c.loop-rest.rest = omega (arith, c.month-length.ensures.value, c.loop-rest-test.true) in
-    reached_more (month_length c.args.year) 1 c.args.day c.loop-rest.month c.loop-rest.rest c.loop-rest.invariant c.month-length-rest.result c.month-length-rest.ensures.value l
+    let l : month_length c.args.year c.loop-rest.month ≤ c.loop-rest.rest = omega (arith, c.month_length.ensures.value, c.loop-rest-test.true) in
+    reached_more (month_length c.args.year) 1 c.args.day c.loop-rest.month c.loop-rest.rest c.loop-rest.invariant c.month_length-rest.result c.month_length-rest.ensures.value l
 
 pub returns : goal.returns
 returns c =
-    let l : c.loop-rest.rest < month_length c.args.year c.loop-rest.month = omega (arith, c.month-length.ensures.value, c.loop-rest-test.false) in
+    let l : c.loop-rest.rest < month_length c.args.year c.loop-rest.month = omega (arith, c.month_length.ensures.value, c.loop-rest-test.false) in
     let h = near c.args.year c.args.day c.loop-rest.month c.loop-rest.rest c.requires c.loop-rest.invariant in
     let m = month_most c.args.year c.loop-rest.month in
     record {

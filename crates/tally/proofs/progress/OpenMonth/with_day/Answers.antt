@@ -15,15 +15,15 @@ accrued o = record { range = o.range; least = o.least; most = o.most; few = o.fe
 short : (o : OpenMonth) → o.days ≤ 31
 short o = omega (arith, o.inside, month_most o.month.year o.month.month)
 
-pub overflow-add-sums : goal.overflow-add-sums
-overflow-add-sums c =
+pub overflow_add-sums : goal.overflow_add-sums
+overflow_add-sums c =
     let o = c.args.self.now in
     let a = energy_low o.days o.sums (short o) (accrued o) in
     let b = day_energy_low c.figures-more.result c.figures-more.ensures.plausible in
     search (rules, a, b)
 
-pub overflow-add-sums-2 : goal.overflow-add-sums-2
-overflow-add-sums-2 c =
+pub overflow_add-sums-2 : goal.overflow_add-sums-2
+overflow_add-sums-2 c =
     let o = c.args.self.now in
     let a = curtailable_low o.days o.sums (short o) (accrued o) in
     let b = day-curtailable-low c.figures-more.result c.figures-more.ensures.plausible in

@@ -2,8 +2,8 @@ use Rattle.std.proofs.Common.{◌+◌, ◌*◌, ◌≤◌, arith}
 use Rattle.std.proofs.lemmas.Nat.{mul-le}
 use Rattle.curtailment.proofs.standby.money.StandbyBasis.credit.Goals as goal
 
-pub overflow-mul-credit-price : goal.overflow-mul-credit-price
-overflow-mul-credit-price c =
+pub overflow_mul-credit-price : goal.overflow_mul-credit-price
+overflow_mul-credit-price c =
     let t = c.args.self.now.terms in
     let over = c.saturating-sub-above.result in
     let h = mul-le t.hours c.available.result 8760 100000 c.args.self.now.year c.available.ensures.bound in
