@@ -6,7 +6,7 @@ use Rattle.calendar.specs.declared.season.SeasonKind.{SeasonKind}
 use Rattle.metering.specs.Acceptance.{in_place, placed, end_of}
 use Rattle.metering.specs.declared.notice.Notice.{Notice}
 use Rattle.metering.proofs.accept.are_placed.Goals as goal
-use Rattle.metering.proofs.accept.are_placed.Goals.{then-not-is-placed-via-then-not-is-placed, then-not-is-placed-via-else-not-is-placed+then-notice-after}
+use Rattle.metering.proofs.accept.are_placed.Goals.{then-not-is_placed-via-then-not-is_placed, then-not-is_placed-via-else-not-is_placed+then-notice-after}
 
 abbrev blank : Notice
 blank = record { minute = pos 0; release = None }
@@ -40,20 +40,20 @@ second_fails false y z h = refl
 both_hold : (x y z : Bool) → x ≡ true → y ≡ true → (x && (y && z)) ≡ z
 both_hold x y z h k = rw (h, k)
 
-pub returns-then-not-is-placed : goal.returns-then-not-is-placed
-returns-then-not-is-placed c =
+pub returns-then-not-is_placed : goal.returns-then-not-is_placed
+returns-then-not-is_placed c =
     let xs = c.args.notices.now in
     let i = c.loop-notice.notice-index in
     let n = get_or xs i blank in
     let l = to_z-of_z w32 c.args.low c.ranges.low in
     let h = plain c.args.season c.args.low _ c.loop-notice.after _ xs (drop i xs) l c.loop-notice.after-is c.loop-notice.invariant in
     let o = one c.args.season c.args.low c.loop-notice.after xs i c.loop-notice-test.true in
-    elim c.then-not-is-placed.branch [
-      | then-not-is-placed-via-then-not-is-placed w ↦
+    elim c.then-not-is_placed.branch [
+      | then-not-is_placed-via-then-not-is_placed w ↦
           let p : placed c.args.season c.args.low n ≡ false =
-          ap (λ z. placed c.args.season z n) (sym l) ∙ sym c.is-placed.ensures ∙ w.if-not-is-placed.true in
+          ap (λ z. placed c.args.season z n) (sym l) ∙ sym c.is_placed.ensures ∙ w.if-not-is_placed.true in
           sym (sym h ∙ o ∙ first_fails _ _ p)
-      | then-not-is-placed-via-else-not-is-placed+then-notice-after w ↦
+      | then-not-is_placed-via-else-not-is_placed+then-notice-after w ↦
           let p : le_z c.loop-notice.after n.minute ≡ false =
           let m : SFits w32 n.minute = search rules in
           since n.minute _ c.loop-notice.after _ true (to_z-of_z w32 n.minute m) c.loop-notice.after-is w.if-notice-after.true in
@@ -69,7 +69,7 @@ loop-notice-preserved c =
     let h = plain c.args.season c.args.low _ c.loop-notice.after _ xs (drop i xs) l c.loop-notice.after-is c.loop-notice.invariant in
     let o = one c.args.season c.args.low c.loop-notice.after xs i c.loop-notice-test.true in
     let p : placed c.args.season c.args.low n ≡ true =
-    ap (λ z. placed c.args.season z n) (sym l) ∙ sym c.is-placed.ensures ∙ c.if-not-is-placed.false in
+    ap (λ z. placed c.args.season z n) (sym l) ∙ sym c.is_placed.ensures ∙ c.if-not-is_placed.false in
     let q : le_z c.loop-notice.after n.minute ≡ true =
     let m : SFits w32 n.minute = search rules in
     since n.minute _ c.loop-notice.after _ false (to_z-of_z w32 n.minute m) c.loop-notice.after-is c.if-notice-after.false in

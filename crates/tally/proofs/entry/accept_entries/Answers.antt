@@ -8,9 +8,9 @@ pub returns : goal.returns
 returns c =
     let d = c.args.date.now in
     let f = c.args.firm.now in
-    let n = c.first-five-count.result.1 in
+    let n = c.first_five-count.result.1 in
     let part : n - 0 ≡ n = omega arith in
     c.accept.ensures
-    ∙ ap (λ k. acceptance d f (take k c.first-five-count.result.0)) part
-    ∙ ap (acceptance d f) c.first-five-count.ensures.items
+    ∙ ap (λ k. acceptance d f (take k c.first_five-count.result.0)) part
+    ∙ ap (acceptance d f) c.first_five-count.ensures.items
     ∙ five_tell d f (notices_of c.args.entries.now)

@@ -9,7 +9,7 @@ use Rattle.worksheet.proofs.scan.number.Goals.{then-byte-lt48-via-then-byte-lt48
 pub returns-then-byte-lt48 : goal.returns-then-byte-lt48
 returns-then-byte-lt48 c =
     let xs = c.args.word.now in
-    let w : 0 < length xs = let e = c.if-is-empty.ensures in grind (arith, nat_tests) in
+    let w : 0 < length xs = let e = c.if-is_empty.ensures in grind (arith, nat_tests) in
     let b = get_or xs c.loop-byte.byte-index 0 in
     let bad : digit b ≡ false =
     elim c.then-byte-lt48.branch [
@@ -21,7 +21,7 @@ returns-then-byte-lt48 c =
 pub returns-then-value-gt4294967295 : goal.returns-then-value-gt4294967295
 returns-then-value-gt4294967295 c =
     let xs = c.args.word.now in
-    let w : 0 < length xs = let e = c.if-is-empty.ensures in grind (arith, nat_tests) in
+    let w : 0 < length xs = let e = c.if-is_empty.ensures in grind (arith, nat_tests) in
     let b = get_or xs c.loop-byte.byte-index 0 in
     let n = c.loop-byte.value in
     let bad : (digit b && ltb (10 * n + (b - 48)) 4294967296) ≡ false = grind (arith, nat_tests) in
@@ -38,5 +38,5 @@ loop-byte-preserved c =
 pub returns : goal.returns
 returns c =
     let xs = c.args.word.now in
-    let w : 0 < length xs = let e = c.if-is-empty.ensures in grind (arith, nat_tests) in
+    let w : 0 < length xs = let e = c.if-is_empty.ensures in grind (arith, nat_tests) in
     sym (some_word xs w ∙ sym c.loop-byte.invariant.0 ∙ at_drop_all (read_on c.loop-byte.value) xs c.loop-byte.byte-index c.loop-byte-test.false)

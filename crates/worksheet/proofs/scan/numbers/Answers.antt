@@ -8,21 +8,21 @@ use Rattle.worksheet.proofs.scan.numbers.Goals as goal
 pub loop-i-init : goal.loop-i-init
 loop-i-init g c = (begins g.row.N c.args.line.now, length-replicate g.row.N 0)
 
-pub returns-in-err-rest : goal.returns-in-err-rest
-returns-in-err-rest g c =
+pub returns-in_err-rest : goal.returns-in_err-rest
+returns-in_err-rest g c =
     c.from-residual.ensures
-    ∙ sym (short g.row.N c.args.line.now _ c.loop-i.i (option_map (λ x. x.now) c.loop-i.rest) c.loop-i-test.true (ap (option_map (λ x. x.now)) c.in-err-rest.was) c.loop-i.invariant.0)
+    ∙ sym (short g.row.N c.args.line.now _ c.loop-i.i (option_map (λ x. x.now) c.loop-i.rest) c.loop-i-test.true (ap (option_map (λ x. x.now)) c.in_err-rest.was) c.loop-i.invariant.0)
 
-pub returns-in-err-found : goal.returns-in-err-found
-returns-in-err-found g c =
-    c.from-residual-in-err-found.ensures
-    ∙ sym (no_number g.row.N c.args.line.now _ c.loop-i.i (option_map (λ x. x.now) c.loop-i.rest) _ _ _ c.loop-i-test.true (ap (option_map (λ x. x.now)) c.in-ok-rest.was) c.cut.ensures (sym c.in-err-found.ensures) c.loop-i.invariant.0)
+pub returns-in_err-found : goal.returns-in_err-found
+returns-in_err-found g c =
+    c.from-residual-in_err-found.ensures
+    ∙ sym (no_number g.row.N c.args.line.now _ c.loop-i.i (option_map (λ x. x.now) c.loop-i.rest) _ _ _ c.loop-i-test.true (ap (option_map (λ x. x.now)) c.in_ok-rest.was) c.cut.ensures (sym c.in_err-found.ensures) c.loop-i.invariant.0)
 
 pub loop-i-preserved : goal.loop-i-preserved
 loop-i-preserved g c =
-    let n = c.in-ok-found.field-0 in
+    let n = c.in_ok-found.field-0 in
     let long : c.loop-i.i < length c.loop-i.found = omega (arith, c.loop-i.invariant.1, c.loop-i-test.true) in (
-      one_number g.row.N c.args.line.now _ _ c.loop-i.i n (option_map (λ x. x.now) c.loop-i.rest) _ _ _ c.loop-i-test.true (ap (option_map (λ x. x.now)) c.in-ok-rest.was) c.cut.ensures (sym c.in-ok-found.ensures) (take_more_set c.loop-i.found c.loop-i.i n long) c.loop-i.invariant.0,
+      one_number g.row.N c.args.line.now _ _ c.loop-i.i n (option_map (λ x. x.now) c.loop-i.rest) _ _ _ c.loop-i-test.true (ap (option_map (λ x. x.now)) c.in_ok-rest.was) c.cut.ensures (sym c.in_ok-found.ensures) (take_more_set c.loop-i.found c.loop-i.i n long) c.loop-i.invariant.0,
       simp length-set c.loop-i.invariant.1,
     )
 

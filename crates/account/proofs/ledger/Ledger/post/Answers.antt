@@ -4,13 +4,13 @@ use Rattle.statement.specs.Rows.{balance_of}
 use Rattle.account.proofs.Balances.{balance_push}
 use Rattle.account.proofs.ledger.Ledger.post.Goals as goal
 
-pub invariant-of-self : goal.invariant-of-self
-invariant-of-self c =
+pub invariant_of-self : goal.invariant_of-self
+invariant_of-self c =
     let o = c.args.self.now in
     let z = c.plus-self.result in
     let cents = c.args.row.cents in
     let n = vec_len o.rows in
-    let len = c.push-reserved.ensures.len in
+    let len = c.push_reserved.ensures.len in
     let below = o.below in
     let above = o.above in
     let fit : SFits w64 o.balance = search rules in
@@ -20,8 +20,8 @@ invariant-of-self c =
     let row = to_z-of_z w64 cents fit_row in
     let stored = to_z-of_z w64 z fit-sum in
     let sum : to_z w64 (of_z w64 z) ≡ o.balance +ℤ cents = stored ∙ c.plus-self.ensures ∙ ap (λ b. b +ℤ to_z w64 (of_z w64 cents)) held ∙ ap (λ x. o.balance +ℤ x) row in
-    let items = ap balance_of c.push-reserved.ensures.items ∙ balance_push (vec_items o.rows) c.args.row in
-    let kept : to_z w64 (of_z w64 z) ≡ balance_of (vec_items c.push-reserved.new.self) = sum ∙ ap (λ b. b +ℤ cents) o.summed ∙ sym items in (
+    let items = ap balance_of c.push_reserved.ensures.items ∙ balance_push (vec_items o.rows) c.args.row in
+    let kept : to_z w64 (of_z w64 z) ≡ balance_of (vec_items c.push_reserved.new.self) = sum ∙ ap (λ b. b +ℤ cents) o.summed ∙ sym items in (
       o.most,
       (
         omega (arith, len, c.requires.room, o.rows.ok.0),

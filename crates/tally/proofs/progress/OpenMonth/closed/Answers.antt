@@ -13,7 +13,7 @@ returns c =
     let p = progress_of o in
     let b = c.args.supplementary in
     let u = c.args.entered in
-    let full : is_full p ≡ true = sym c.is-full.ensures ∙ c.if-not-is-full.false in
+    let full : is_full p ≡ true = sym c.is_full.ensures ∙ c.if-not-is_full.false in
     let a : Accrued o.days o.sums = record { range = o.range; least = o.least; most = o.most; few = o.few; under = o.under } in
     let w = figures_within p b u a full c.if-supplementary-gt100000.false c.if-entered-gt4000000000.false in
     let k : closable b u ≡ true = let x = c.if-supplementary-gt100000.false in let y = c.if-entered-gt4000000000.false in grind (arith, nat_tests) in

@@ -8,7 +8,7 @@ use Rattle.tally.proofs.progress.OpenMonth.date.Goals as goal
 pub returns : goal.returns
 returns c =
     let o = c.args.self.now in
-    let full : is_full (progress_of o) ≡ false = sym c.if-is-full.ensures in
+    let full : is_full (progress_of o) ≡ false = sym c.if-is_full.ensures in
     let p = placed o.month o.begun in
     ap Some (date_in o.month o.today o.days p o.tied (not_full (progress_of o) p o.tied o.inside o.ended full))
     ∙ ap (λ t. cond t None (Some (date_of o.today))) (sym full)

@@ -6,12 +6,12 @@ use Rattle.tally.proofs.Closing.{full_days}
 use Rattle.tally.proofs.Opening.{after, adjoins, first_counted_lem}
 use Rattle.tally.proofs.progress.OpenMonth.next.Goals as goal
 
-pub invariant-of-result : goal.invariant-of-result
-invariant-of-result c =
+pub invariant_of-result : goal.invariant_of-result
+invariant_of-result c =
     let o = c.args.self.now in
-    let full : is_full (progress_of o) ≡ true = sym c.is-full.ensures ∙ c.if-not-is-full.false in
+    let full : is_full (progress_of o) ≡ true = sym c.is_full.ensures ∙ c.if-not-is_full.false in
     let d = full_days (progress_of o) full in
-    let is = c.month-after.ensures in
+    let is = c.month_after.ensures in
     let counted = ap first_counted is ∙ first_counted_lem _ (after o.month d.0) in
     let first = ap (λ (m : CalendarMonth). first_day m.year m.month) is ∙ adjoins o.month d.0 in
     (counted, (omega (arith, first, o.tied, d.1), (omega arith, (o.ended, (omega arith, (omega arith, (omega arith, (omega arith, (omega arith, tt)))))))))

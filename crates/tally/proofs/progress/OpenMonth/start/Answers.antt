@@ -6,11 +6,11 @@ use Rattle.calendar.proofs.Numbering.{dated_is}
 use Rattle.tally.proofs.Opening.{of_day, at_first, first_counted_lem}
 use Rattle.tally.proofs.progress.OpenMonth.start.Goals as goal
 
-pub invariant-of-result : goal.invariant-of-result
-invariant-of-result c =
+pub invariant_of-result : goal.invariant_of-result
+invariant_of-result c =
     let n = c.args.day in
-    let d = dated_is n c.in-ok-date.date (sym c.date-of.ensures ∙ c.in-ok-date.was) in
-    let is = c.calendar-month.ensures ∙ ap month_of (sym d.1) in
+    let d = dated_is n c.in_ok-date.date (sym c.date_of.ensures ∙ c.in_ok-date.was) in
+    let is = c.calendar_month.ensures ∙ ap month_of (sym d.1) in
     let one : (date_of n).day ≡ 1 = ap (λ (x : Date). x.day) d.1 ∙ c.if-date-ne1.false in
     let first = at_first n d.0 one in
     let same = ap (λ (m : CalendarMonth). first_day m.year m.month) is in

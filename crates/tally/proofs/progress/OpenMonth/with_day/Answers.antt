@@ -29,10 +29,10 @@ overflow_add-sums-2 c =
     let b = day-curtailable-low c.figures-more.result c.figures-more.ensures.plausible in
     search (rules, a, b)
 
-pub invariant-of-result : goal.invariant-of-result
-invariant-of-result c =
+pub invariant_of-result : goal.invariant_of-result
+invariant_of-result c =
     let o = c.args.self.now in
-    let full : is_full (progress_of o) ≡ false = sym c.if-is-full.ensures in
+    let full : is_full (progress_of o) ≡ false = sym c.if-is_full.ensures in
     let left = not_full (progress_of o) (placed o.month o.begun) o.tied o.inside o.ended full in
     let more = accrued_more o.days o.sums c.figures-more.result (accrued o) c.figures-more.ensures.plausible in
     let top = c.max.ensures in (
