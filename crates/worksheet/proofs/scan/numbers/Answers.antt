@@ -10,12 +10,12 @@ loop-i-init g c = (begins g.row.N c.args.line.now, length-replicate g.row.N 0)
 
 pub returns-in_err-rest : goal.returns-in_err-rest
 returns-in_err-rest g c =
-    c.from-residual.ensures
+    c.from_residual.ensures
     ∙ sym (short g.row.N c.args.line.now _ c.loop-i.i (option_map (λ x. x.now) c.loop-i.rest) c.loop-i-test.true (ap (option_map (λ x. x.now)) c.in_err-rest.was) c.loop-i.invariant.0)
 
 pub returns-in_err-found : goal.returns-in_err-found
 returns-in_err-found g c =
-    c.from-residual-in_err-found.ensures
+    c.from_residual-in_err-found.ensures
     ∙ sym (no_number g.row.N c.args.line.now _ c.loop-i.i (option_map (λ x. x.now) c.loop-i.rest) _ _ _ c.loop-i-test.true (ap (option_map (λ x. x.now)) c.in_ok-rest.was) c.cut.ensures (sym c.in_err-found.ensures) c.loop-i.invariant.0)
 
 pub loop-i-preserved : goal.loop-i-preserved
