@@ -14,4 +14,14 @@ invariant_of-result c =
     let is = c.month_after.ensures in
     let counted = ap first_counted is ∙ first_counted_lem _ (after o.month d.0) in
     let first = ap (λ (m : CalendarMonth). first_day m.year m.month) is ∙ adjoins o.month d.0 in
-    (counted, (omega (arith, first, o.tied, d.1), (omega arith, (o.ended, (omega arith, (omega arith, (omega arith, (omega arith, (omega arith, tt)))))))))
+    record {
+      begun = counted;
+      tied = omega (arith, first, o.tied, d.1);
+      inside = omega arith;
+      ended = o.ended;
+      range = omega arith;
+      least = omega arith;
+      most = omega arith;
+      few = omega arith;
+      under = omega arith;
+    }

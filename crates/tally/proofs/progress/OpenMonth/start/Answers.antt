@@ -15,4 +15,14 @@ invariant_of-result c =
     let first = at_first n d.0 one in
     let same = ap (λ (m : CalendarMonth). first_day m.year m.month) is in
     let begun = ap first_counted is ∙ first_counted_lem _ (of_day n d.0) in
-    (begun, (omega (arith, first, same), (omega arith, (d.0, (omega arith, (omega arith, (omega arith, (omega arith, (omega arith, tt)))))))))
+    record {
+      begun = begun;
+      tied = omega (arith, first, same);
+      inside = omega arith;
+      ended = d.0;
+      range = omega arith;
+      least = omega arith;
+      most = omega arith;
+      few = omega arith;
+      under = omega arith;
+    }

@@ -35,16 +35,15 @@ invariant_of-result c =
     let full : is_full (progress_of o) ≡ false = sym c.if-is_full.ensures in
     let left = not_full (progress_of o) (placed o.month o.begun) o.tied o.inside o.ended full in
     let more = accrued_more o.days o.sums c.figures-more.result (accrued o) c.figures-more.ensures.plausible in
-    let top = c.max.ensures in (
-      o.begun,
-      (
-        omega (arith, o.tied),
-        (
-          omega (arith, left),
-          (
-            omega (arith, c.if-self-gt36524.false),
-            (rw top more.range, (rw top more.least, (rw top more.most, (more.few, (rw top more.under, tt))))),
-          ),
-        ),
-      ),
-    )
+    let top = c.max.ensures in
+    record {
+      begun = o.begun;
+      tied = omega (arith, o.tied);
+      inside = omega (arith, left);
+      ended = omega (arith, c.if-self-gt36524.false);
+      range = rw top more.range;
+      least = rw top more.least;
+      most = rw top more.most;
+      few = more.few;
+      under = rw top more.under;
+    }
