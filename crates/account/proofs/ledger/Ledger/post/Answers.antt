@@ -21,22 +21,12 @@ invariant_of-self c =
     let stored = to_z-of_z w64 z fit-sum in
     let sum : to_z w64 (of_z w64 z) ≡ o.balance +ℤ cents = stored ∙ c.plus-self.ensures ∙ ap (λ b. b +ℤ to_z w64 (of_z w64 cents)) held ∙ ap (λ x. o.balance +ℤ x) row in
     let items = ap balance_of c.push_reserved.ensures.items ∙ balance_push (vec_items o.rows) c.args.row in
-    let kept : to_z w64 (of_z w64 z) ≡ balance_of (vec_items c.push_reserved.new.self) = sum ∙ ap (λ b. b +ℤ cents) o.summed ∙ sym items in (
-      o.most,
-      (
-        omega (arith, len, c.requires.room, o.rows.ok.0),
-        (
-          search rules,
-          (
-            kept,
-            (
-              omega (arith, ints, sum, below, len, c.requires.modest.0),
-              (
-                omega (arith, ints, sum, above, len, c.requires.modest.1),
-                tt,
-              ),
-            ),
-          ),
-        ),
-      ),
-    )
+    let kept : to_z w64 (of_z w64 z) ≡ balance_of (vec_items c.push_reserved.new.self) = sum ∙ ap (λ b. b +ℤ cents) o.summed ∙ sym items in
+    record {
+      most = o.most;
+      fits = omega (arith, len, c.requires.room);
+      reserved = search rules;
+      summed = kept;
+      below = omega (arith, ints, sum, below, len, c.requires.modest.0);
+      above = omega (arith, ints, sum, above, len, c.requires.modest.1);
+    }

@@ -1,6 +1,5 @@
-use Rattle.std.proofs.Common.{refl}
 use Rattle.billing.proofs.Limits.{limited}
 use Rattle.billing.proofs.month.Month.figures.Goals as goal
 
-pub returns : goal.returns
-returns c = record { value = refl; limited = limited c.args.self.now.figures c.args.self.now.within }
+pub returns-clause-limited : goal.returns-clause-limited
+returns-clause-limited c = limited c.args.self.now.figures c.args.self.now.within
