@@ -1,5 +1,5 @@
 -- The sum of rows with one more.
-use Rattle.std.proofs.Common.{◌≡◌, List, [], ◌∷◌, ◌++◌, ℤ, ◌+ℤ◌, arith}
+use Rattle.std.proofs.Common.{◌≡◌, List, [], ◌∷◌, ◌++◌, ◌+ℤ◌, arith}
 use Rattle.std.proofs.lemmas.Int.{ints}
 use Rattle.statement.specs.Rows.{balance_of}
 use Rattle.statement.specs.declared.row.Row.{Row}

@@ -1,11 +1,10 @@
 -- What a month's limits come to, figure by figure.
-use Rattle.std.proofs.Common.{◌≡◌, ℕ, zero, suc, ◌*◌, ◌<◌, ◌≤◌, Bool, true, false, cond, ◌&&◌, ◌||◌, eqb, leb, List, [], ◌∷◌, length, get_or, sym, refl, ap, ◌∙◌, inl, inr, mul-le-mul, arith, rules}
+use Rattle.std.proofs.Common.{◌≡◌, ℕ, ◌*◌, ◌≤◌, true, ◌&&◌, arith}
 use Rattle.std.proofs.lemmas.Bool.{and_parts}
 use Rattle.std.proofs.lemmas.Nat.{mul-le}
-use Rattle.std.specs.List.{AllByRecursion as All}
 use Rattle.std.proofs.lemmas.Bool.Decides.{nat_tests}
 use Rattle.billing.specs.declared.figures.Figures.{Figures}
-use Rattle.billing.specs.Limits.{has_days, modest, measured, windowed, within, Within, Limited}
+use Rattle.billing.specs.Limits.{has_days, modest, measured, windowed, Within, Limited}
 
 -- no month is longer than 31 days
 short : (number days : ℕ) → has_days number days ≡ true → (number ≤ 12) × (days ≤ 31)

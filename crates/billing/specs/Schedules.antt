@@ -1,5 +1,5 @@
 -- The schedules and their codes.
-use Rattle.std.specs.Prelude.{ℕ, ◌-◌, cond, List, [], ◌∷◌, Some, None, Option, ◌==◌}
+use Rattle.std.specs.Prelude.{ℕ, cond, List, [], ◌∷◌, Some, None, Option, ◌==◌}
 use Rattle.billing.specs.declared.schedule.Schedule.{Schedule}
 use Rattle.billing.specs.declared.schedule.Schedule.TheVariants.{Gs3Ev, Five, Six, SixTs, Gs2, Gs2T, Gs3, Gs4, Eight}
 

@@ -1,11 +1,11 @@
 -- The date of every day number: it is real, its number is the day's, and the next day's date follows it.
-use Rattle.std.proofs.Common.{◌≡◌, ℕ, zero, suc, ◌+◌, ◌-◌, ◌<◌, ◌≤◌, Bool, true, false, cond, ltb, sym, refl, ap, ◌∙◌, subst, inl, inr, arith}
-use Rattle.std.proofs.lemmas.Bool.{lt-ltb, le-ltb, cases_lt, cases_Bool, cond_both}
+use Rattle.std.proofs.Common.{◌≡◌, ℕ, suc, ◌+◌, ◌-◌, ◌<◌, ◌≤◌, cond, sym, refl, ap, ◌∙◌, inl, inr, arith}
+use Rattle.std.proofs.lemmas.Bool.{cases_Bool, cond_both}
 use Rattle.std.proofs.lemmas.Bool.Decides.{nat_tests}
 use Rattle.calendar.specs.declared.date.Date.{Date}
-use Rattle.calendar.specs.Dates.{leap, year_length, month_length, locate, total, date, in_year, from_year, date_of, first_day, day_number, last_day}
-use Rattle.calendar.specs.Laws.{Real, day_after}
-use Rattle.calendar.proofs.Counting.{Place, total_last, total_grows, total_fewer, lands, placed, pair_is}
+use Rattle.calendar.specs.Dates.{leap, year_length, month_length, total, date, in_year, from_year, date_of, first_day, day_number, last_day}
+use Rattle.calendar.specs.Laws.{Real}
+use Rattle.calendar.proofs.Counting.{total_last, total_grows, lands, placed}
 
 pub same_date : {y z m n d e : ℕ} → y ≡ z → m ≡ n → d ≡ e → date y m d ≡ date z n e
 same_date p q r = cc

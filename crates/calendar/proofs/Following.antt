@@ -1,15 +1,15 @@
 -- The day after a day, and the order of days and months.
-use Rattle.std.proofs.Common.{◌≡◌, ℕ, zero, suc, ◌+◌, ◌-◌, ◌*◌, ◌<◌, ◌≤◌, Bool, true, false, cond, ltb, Some, None, sym, refl, ap, ◌∙◌, subst, inl, inr, add-one, arith}
+use Rattle.std.proofs.Common.{◌≡◌, ℕ, suc, ◌+◌, ◌-◌, ◌*◌, ◌<◌, ◌≤◌, Some, sym, refl, ap, ◌∙◌, inl, inr, add-one, arith}
 use native.Mathlib.Decide.{le_ind}
 use Rattle.std.proofs.lemmas.Bool.{lt-ltb, le-ltb, cases_lt, cond-true, cond-false}
 use Rattle.std.proofs.lemmas.Bool.Decides.{nat_tests}
 use Rattle.calendar.specs.declared.date.Date.{Date}
 use Rattle.calendar.specs.declared.date.CalendarMonth.{CalendarMonth}
-use Rattle.calendar.specs.Dates.{year_length, month_length, total, date, date_of, first_day, day_number, month_of, counted, first_counted, first_day_of, last_day_of, last_day}
+use Rattle.calendar.specs.Dates.{year_length, month_length, total, date, date_of, first_day, month_of, counted, first_counted, first_day_of, last_day_of, last_day}
 use Rattle.calendar.specs.Laws.{Real, day_after, month_index}
-use Rattle.calendar.proofs.Choosing.{Taken, given}
+use Rattle.calendar.proofs.Choosing.{given}
 use Rattle.calendar.proofs.Counting.{total_last, total_more, total_fewer}
-use Rattle.calendar.proofs.Dating.{Count, count_of, count_date, date_at, date_of_is, date_of_real, date_of_number, months_fill, month_least, month_most, same_date, held-by-month}
+use Rattle.calendar.proofs.Dating.{Count, count_of, count_date, date_at, date_of_real, date_of_number, months_fill, month_least, month_most, same_date, held-by-month}
 
 -- the three ways on from a date
 pub after_in_month : (d : Date) → d.day < month_length d.year d.month → day_after d ≡ date d.year d.month (d.day + 1)

@@ -1,5 +1,5 @@
 -- Which days a season holds, which months are credited to it, and the order of seasons.
-use Rattle.std.proofs.Common.{◌≡◌, ℕ, ◌+◌, ◌-◌, ◌*◌, ◌<◌, ◌≤◌, Bool, true, false, cond, ◌&&◌, ◌||◌, eqb, ltb, leb, ◌⊎◌, Some, None, sym, refl, ap, ◌∙◌, subst, inl, inr, arith}
+use Rattle.std.proofs.Common.{◌≡◌, ℕ, ◌+◌, ◌-◌, ◌*◌, ◌<◌, ◌≤◌, true, false, ◌&&◌, eqb, ◌⊎◌, Some, None, sym, refl, ap, ◌∙◌, subst, inl, inr, arith}
 use Rattle.std.proofs.lemmas.Bool.{cases_lt, cond-true, cond-false, and_left, and_parts, or_cases, eqb-true}
 use Rattle.std.proofs.lemmas.Bool.Decides.{nat_tests}
 use Rattle.calendar.specs.declared.date.Date.{Date}
@@ -12,7 +12,7 @@ use Rattle.calendar.specs.Seasons.{in_summer, in_december, in_late_winter, summe
 use Rattle.calendar.specs.Laws.{Real, month_index, season_index}
 use Rattle.calendar.proofs.Choosing.{Taken, taken}
 use Rattle.calendar.proofs.Dating.{month_most, month_least, date_of_real, last_date_lem, same_date}
-use Rattle.calendar.proofs.Numbering.{Known, known, before_last, has_number, number_back}
+use Rattle.calendar.proofs.Numbering.{known, before_last, has_number, number_back}
 use Rattle.calendar.proofs.Following.{rank, dates_in_order, days_in_order}
 
 pub held : (d : Date) (s : Season) → season_of d ≡ Some s

@@ -1,11 +1,11 @@
 -- The number of every date: real dates up to the last day have one, and no others.
-use Rattle.std.proofs.Common.{◌≡◌, ℕ, suc, ◌+◌, ◌-◌, ◌<◌, ◌≤◌, Bool, true, false, cond, ◌&&◌, ◌||◌, eqb, leb, Some, None, sym, refl, ap, ◌∙◌, inl, inr, arith}
+use Rattle.std.proofs.Common.{◌≡◌, ℕ, suc, ◌+◌, ◌-◌, ◌<◌, ◌≤◌, true, leb, Some, sym, ap, ◌∙◌, inl, inr, arith}
 use Rattle.std.proofs.lemmas.Bool.{cases_lt, cond-true, and_parts, and_from, leb-true, le-leb}
 use Rattle.std.proofs.lemmas.Bool.Decides.{nat_tests}
 use Rattle.calendar.specs.declared.date.Date.{Date}
-use Rattle.calendar.specs.Dates.{year_length, month_length, total, first_day, date_of, day_number, month_of, last_day, dated, first_counted, numbered, number_of}
+use Rattle.calendar.specs.Dates.{year_length, month_length, date_of, day_number, month_of, last_day, dated, first_counted, numbered, number_of}
 use Rattle.calendar.specs.Laws.{Real}
-use Rattle.calendar.proofs.Choosing.{Taken, given}
+use Rattle.calendar.proofs.Choosing.{given}
 use Rattle.calendar.proofs.Counting.{total_last, total_grows}
 use Rattle.calendar.proofs.Dating.{month_in_year, date_of_is, date_of_real, date_of_number}
 

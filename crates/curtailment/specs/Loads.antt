@@ -1,9 +1,8 @@
 -- The metered credit: within its bound, and never higher at a higher firm demand.
-use Rattle.std.specs.Prelude.{ℕ, zero, suc, ◌+◌, ◌-◌, ◌*◌, ◌<◌, ◌≤◌, cond, ◌==◌}
+use Rattle.std.specs.Prelude.{ℕ, zero, suc, ◌-◌, ◌*◌, ◌<◌, ◌≤◌, cond, ◌==◌}
 use Rattle.std.proofs.Common.{arith, mul-le-mul_left}
 use Rattle.std.proofs.lemmas.Nat.{mul-le}
 use Rattle.std.proofs.lemmas.Bool.Decides.{nat_tests}
-use Rattle.billing.specs.Amounts.{cents}
 use Rattle.billing.specs.Limits.{Limited}
 use Rattle.billing.specs.Prices.{filed}
 use Rattle.billing.specs.declared.figures.Figures.{Figures}

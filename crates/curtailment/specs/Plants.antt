@@ -1,12 +1,11 @@
 -- The standby basis: its kW and money within their bounds, and a credit never higher at a higher firm demand.
-use Rattle.std.specs.Prelude.{◌≡◌, ℕ, ◌+◌, ◌-◌, ◌*◌, ◌/◌, ◌<◌, ◌≤◌, max, Bool, true, false, cond, leb, refl}
+use Rattle.std.specs.Prelude.{ℕ, ◌+◌, ◌-◌, ◌*◌, ◌≤◌}
 use Rattle.std.proofs.Common.{arith, mul-le-mul_left}
 use Rattle.std.proofs.lemmas.Nat.{mul-le}
 use Rattle.std.proofs.lemmas.Bool.Decides.{nat_tests}
 use Rattle.billing.specs.Limits.{Limited}
 use Rattle.billing.specs.Prices.{filed}
 use Rattle.billing.specs.declared.figures.Figures.{Figures}
-use Rattle.billing.proofs.Rounding.{cents_rises, cents_below}
 use Rattle.calendar.specs.declared.season.SeasonKind.{SeasonKind}
 use Rattle.calendar.specs.declared.season.SeasonKind.TheVariants.{Summer, Winter}
 use Rattle.curtailment.specs.Pricing.{credit_price, failure_price}

@@ -1,5 +1,5 @@
 -- How high the curtailment prices are.
-use Rattle.std.specs.Prelude.{ℕ, ◌≤◌}
+use Rattle.std.specs.Prelude.{◌≤◌}
 use Rattle.std.proofs.Common.{arith}
 use Rattle.billing.specs.Prices.{filed}
 use Rattle.calendar.specs.declared.season.SeasonKind.{SeasonKind}

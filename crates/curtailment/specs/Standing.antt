@@ -1,5 +1,5 @@
 -- The standby basis: its terms, credit and failure charge.
-use Rattle.std.specs.Prelude.{ℕ, ◌+◌, ◌-◌, ◌*◌, max, Bool, true, false, cond, ◌&&◌, Ok, Err, Result, ◌==◌, nat_le}
+use Rattle.std.specs.Prelude.{ℕ, ◌+◌, ◌-◌, ◌*◌, max, Bool, cond, ◌&&◌, Ok, Err, Result, ◌==◌, nat_le}
 use Rattle.billing.specs.Amounts.{cents}
 use Rattle.billing.specs.Prices.{Rows}
 use Rattle.billing.specs.Schedules.{code_of}

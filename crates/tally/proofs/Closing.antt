@@ -1,16 +1,13 @@
 -- The figures of a full month keep a month's limits.
-use Rattle.std.proofs.Common.{◌≡◌, ℕ, ◌+◌, ◌*◌, ◌≤◌, Bool, true, false, cond, ◌&&◌, ◌||◌, eqb, leb, Some, None, Ok, Err, Option, Result, sym, refl, ap, ◌∙◌, arith}
+use Rattle.std.proofs.Common.{◌≡◌, ℕ, ◌≤◌, true, false, cond, eqb, Some, Ok, Err, Option, Result, refl, ap, ◌∙◌, arith}
 use Rattle.std.specs.Option.{option_map}
 use Rattle.std.specs.Result.{result_ok}
 use Rattle.std.proofs.lemmas.Bool.{and_parts}
 use Rattle.std.proofs.lemmas.Bool.Decides.{nat_tests}
 use Rattle.billing.specs.Limits.{has_days, modest, measured, windowed, within}
-use Rattle.billing.specs.Months.{map_ok, checked}
-use Rattle.billing.specs.declared.fault.TermsFault.{TermsFault}
-use Rattle.billing.specs.declared.fault.TermsFault.TheVariants.{OutsideLimits}
-use Rattle.billing.specs.declared.figures.Figures.{Figures}
+use Rattle.billing.specs.Months.{map_ok}
 use Rattle.calendar.specs.Dates.{is_month, leap, month_length, has_thirty, counted}
-use Rattle.tally.specs.Progress.{Progress, is_full, figures_at, closable}
+use Rattle.tally.specs.Progress.{Progress, is_full, figures_at}
 use Rattle.tally.proofs.Adding.{Accrued}
 
 -- a month has as many days as in a common year or in a leap year

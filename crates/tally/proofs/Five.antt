@@ -1,12 +1,11 @@
 -- Five notices tell as much as all: more than four are too many.
-use Rattle.std.proofs.Common.{◌≡◌, ℕ, zero, suc, ◌+◌, ◌<◌, ◌≤◌, min, Bool, true, false, cond, ◌&&◌, leb, List, [], ◌∷◌, length, take, Some, None, Ok, Err, Option, sym, refl, ap, ◌∙◌, arith}
+use Rattle.std.proofs.Common.{◌≡◌, ℕ, ◌<◌, ◌≤◌, min, true, false, cond, leb, List, [], ◌∷◌, length, take, Some, None, Ok, Err, Option, sym, refl, ap, ◌∙◌, arith}
 use Rattle.std.proofs.lemmas.List.{take_all, length-take}
 use Rattle.std.proofs.lemmas.Bool.Decides.{nat_tests}
 use Rattle.calendar.specs.Seasons.{season_of}
 use Rattle.calendar.specs.declared.date.Date.{Date}
 use Rattle.calendar.specs.declared.season.Season.{Season}
-use Rattle.calendar.specs.declared.season.SeasonKind.{SeasonKind}
-use Rattle.metering.specs.Acceptance.{acceptance, elects, orderly, orderly_in, in_place, earliest}
+use Rattle.metering.specs.Acceptance.{acceptance, elects, orderly_in}
 use Rattle.metering.specs.declared.accept.NoticeFault.TheVariants.{NotElected, OutOfPlace}
 use Rattle.metering.specs.declared.firm.FirmDemands.{FirmDemands}
 use Rattle.metering.specs.declared.notice.Notice.{Notice}

@@ -1,11 +1,10 @@
 -- Where an open month stands in the calendar: how it begins, what today's date is, and how the next month follows.
-use Rattle.std.proofs.Common.{◌≡◌, ℕ, ◌+◌, ◌-◌, ◌*◌, ◌<◌, ◌≤◌, Bool, true, false, cond, not, ◌&&◌, ◌||◌, eqb, ltb, leb, sym, refl, ap, ◌∙◌, arith}
+use Rattle.std.proofs.Common.{◌≡◌, ℕ, ◌+◌, ◌-◌, ◌<◌, ◌≤◌, true, false, cond, ◌&&◌, eqb, ltb, leb, sym, refl, ap, ◌∙◌, arith}
 use Rattle.std.proofs.lemmas.Bool.Decides.{nat_tests}
-use Rattle.calendar.specs.Dates.{date, date_of, month_of, day_number, first_day, month_length, is_month, counted, first_counted, last_day}
-use Rattle.calendar.specs.Laws.{Real, month_index}
+use Rattle.calendar.specs.Dates.{date, date_of, month_of, day_number, first_day, month_length, counted, first_counted, last_day}
+use Rattle.calendar.specs.Laws.{month_index}
 use Rattle.calendar.specs.declared.date.CalendarMonth.{CalendarMonth}
-use Rattle.calendar.specs.declared.date.Date.{Date}
-use Rattle.calendar.proofs.Dating.{date_of_real, date_of_number, last_date_lem, held-by-month, month_least, month_most}
+use Rattle.calendar.proofs.Dating.{date_of_real, date_of_number, last_date_lem, held-by-month, month_least}
 use Rattle.calendar.proofs.Following.{months_in_order, month_adjoins, year_adjoins}
 use Rattle.tally.specs.Progress.{Progress, is_full, month_after}
 

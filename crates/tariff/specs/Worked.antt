@@ -1,16 +1,14 @@
 -- Figures worked by hand, and that the written rules give each of them.
-use Rattle.std.specs.Prelude.{◌≡◌, ℕ, ◌-◌, true, List, [], ◌∷◌, ℤ, pos, Some, None, Option}
+use Rattle.std.specs.Prelude.{◌≡◌, ℕ, ◌-◌, true, List, [], ◌∷◌, pos, Some, None, Option}
 use Rattle.std.specs.List.{AllByRecursion as All}
 use Rattle.billing.specs.Prices.{filed}
 use Rattle.billing.specs.declared.figures.Figures.{Figures}
-use Rattle.calendar.specs.declared.season.SeasonKind.{SeasonKind}
-use Rattle.calendar.specs.declared.season.SeasonKind.TheVariants.{Summer, Winter}
+use Rattle.calendar.specs.declared.season.SeasonKind.TheVariants.{Summer}
 use Rattle.curtailment.specs.Metering.{metered_credit}
 use Rattle.curtailment.specs.Standing.{standby_credit, standby_failure}
 use Rattle.curtailment.specs.declared.standby.StandbyTerms.{StandbyTerms}
 use Rattle.metering.specs.Notices.{period_of}
 use Rattle.metering.specs.Periods.{half_hours}
-use Rattle.metering.specs.declared.notice.Notice.{Notice}
 use Rattle.metering.specs.declared.period.Period.{Period}
 use Rattle.rates.specs.Bills.{base_bill}
 use Rattle.rates.specs.Gs3ev.{quoted}

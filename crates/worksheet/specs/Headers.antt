@@ -1,11 +1,10 @@
 -- The first line of a worksheet: the plan, the month and the terms.
-use Rattle.std.specs.Prelude.{ℕ, Bool, true, false, cond, ◌&&◌, List, [], ◌∷◌, Some, None, Ok, Err, codes, Option, Result, ◌==◌, nat_le, slice_index}
+use Rattle.std.specs.Prelude.{ℕ, cond, List, [], ◌∷◌, Some, None, Ok, Err, codes, Option, Result, ◌==◌, nat_le, slice_index}
 use Rattle.std.specs.Str.{bytes_eq}
 use Rattle.billing.specs.Schedules.{schedule_at}
 use Rattle.billing.specs.declared.schedule.Schedule.{Schedule}
 use Rattle.billing.specs.declared.schedule.Schedule.TheVariants.{Gs3Ev, Eight}
 use Rattle.calendar.specs.declared.date.CalendarMonth.{CalendarMonth}
-use Rattle.curtailment.specs.declared.standby.StandbyTerms.{StandbyTerms}
 use Rattle.worksheet.specs.Text.{exactly}
 use Rattle.worksheet.specs.declared.header.BasisTerms.{BasisTerms}
 use Rattle.worksheet.specs.declared.header.BasisTerms.TheVariants as basis

@@ -1,6 +1,6 @@
 -- The loop over months keeps its count, and ends at the day's month.
-use Rattle.std.proofs.Common.{ℕ, ◌+◌, ◌<◌, ◌≤◌, arith, rules}
-use Rattle.calendar.specs.Dates.{month_length, year_length, total}
+use Rattle.std.proofs.Common.{ℕ, ◌<◌, ◌≤◌, arith, rules}
+use Rattle.calendar.specs.Dates.{month_length, year_length}
 use Rattle.calendar.proofs.Counting.{Reached, reached_more, reached_near, reached_all}
 use Rattle.calendar.proofs.Dating.{months_fill, month_least, month_most}
 use Rattle.calendar.proofs.number.month_of.Goals as goal

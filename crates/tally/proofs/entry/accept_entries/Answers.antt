@@ -1,4 +1,4 @@
-use Rattle.std.proofs.Common.{◌≡◌, ◌-◌, take, sym, refl, ap, ◌∙◌, arith}
+use Rattle.std.proofs.Common.{◌≡◌, ◌-◌, take, ap, ◌∙◌, arith}
 use Rattle.metering.specs.Acceptance.{acceptance}
 use Rattle.tally.specs.Entries.{notices_of}
 use Rattle.tally.proofs.Five.{five_tell}

@@ -1,7 +1,7 @@
-use Rattle.std.proofs.Common.{◌≡◌, ◌+◌, ◌-◌, ◌*◌, ◌<◌, true, false, ◌&&◌, ltb, leb, length, get_or, drop, Some, None, sym, refl, ap, ◌∙◌, arith, rules}
+use Rattle.std.proofs.Common.{◌≡◌, ◌+◌, ◌-◌, ◌*◌, ◌<◌, true, false, ◌&&◌, ltb, length, get_or, sym, ◌∙◌, arith}
 use Rattle.std.proofs.lemmas.List.{at_drop_all}
 use Rattle.std.proofs.lemmas.Bool.Decides.{nat_tests}
-use Rattle.worksheet.specs.Text.{digit, read_on, number_of}
+use Rattle.worksheet.specs.Text.{digit, read_on}
 use Rattle.worksheet.proofs.Scanning.{read_stops, read_goes, some_word}
 use Rattle.worksheet.proofs.scan.number.Goals as goal
 use Rattle.worksheet.proofs.scan.number.Goals.{then-byte-lt48-via-then-byte-lt48, then-byte-lt48-via-else-byte-lt48+then-byte-gt57}

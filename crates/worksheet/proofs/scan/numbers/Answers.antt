@@ -1,4 +1,4 @@
-use Rattle.std.proofs.Common.{◌≡◌, ◌+◌, ◌<◌, [], ◌∷◌, ◌++◌, length, take, set, Some, None, sym, refl, ap, ◌∙◌, arith, length-set, take_all, rules}
+use Rattle.std.proofs.Common.{◌<◌, length, sym, ap, ◌∙◌, arith, length-set, take_all}
 use lib.ListN.{length-replicate}
 use Rattle.std.proofs.lemmas.List.{take_more_set}
 use Rattle.std.specs.Option.{option_map}

@@ -1,4 +1,4 @@
-use Rattle.std.proofs.Common.{◌≡◌, map, take, refl, ap, ◌∙◌}
+use Rattle.std.proofs.Common.{map, take, refl, ap, ◌∙◌}
 use Rattle.std.proofs.lemmas.List.{map_push}
 use Rattle.account.specs.Seasons.{credited}
 use Rattle.account.proofs.kept.SeasonRows.with.Goals as goal

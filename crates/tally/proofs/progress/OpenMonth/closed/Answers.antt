@@ -1,6 +1,6 @@
-use Rattle.std.proofs.Common.{◌≡◌, true, cond, ◌&&◌, Some, None, Ok, Err, sym, refl, ap, ◌∙◌, arith}
+use Rattle.std.proofs.Common.{◌≡◌, true, cond, ◌&&◌, Some, None, Ok, Err, sym, ap, ◌∙◌, arith}
 use Rattle.std.proofs.lemmas.Bool.Decides.{nat_tests}
-use Rattle.billing.specs.Months.{figures_of, checked}
+use Rattle.billing.specs.Months.{figures_of}
 use Rattle.billing.specs.declared.fault.TermsFault.TheVariants.{OutsideLimits}
 use Rattle.tally.specs.Progress.{progress_of, is_full, figures_at, closable}
 use Rattle.tally.proofs.Adding.{Accrued}

@@ -1,6 +1,5 @@
-use Rattle.std.proofs.Common.{◌≡◌, ◌<◌, Bool, true, false, cond, ◌&&◌, Some, None, sym, refl, ap, ◌∙◌, arith}
-use Rattle.std.proofs.lemmas.Bool.Decides.{nat_tests}
-use Rattle.calendar.specs.Dates.{date_of, month_length}
+use Rattle.std.proofs.Common.{◌≡◌, false, cond, Some, None, sym, ap, ◌∙◌}
+use Rattle.calendar.specs.Dates.{date_of}
 use Rattle.tally.specs.Progress.{progress_of, is_full}
 use Rattle.tally.proofs.Opening.{placed, date_in, not_full}
 use Rattle.tally.proofs.progress.OpenMonth.date.Goals as goal

@@ -1,4 +1,4 @@
-use Rattle.std.proofs.Common.{◌≡◌, ℕ, ◌+◌, ◌≤◌, true, sym, refl, ap, ◌∙◌, arith}
+use Rattle.std.proofs.Common.{◌≡◌, true, sym, ap, ◌∙◌, arith}
 use Rattle.calendar.specs.Dates.{first_day, first_counted}
 use Rattle.calendar.specs.declared.date.CalendarMonth.{CalendarMonth}
 use Rattle.tally.specs.Progress.{progress_of, is_full}

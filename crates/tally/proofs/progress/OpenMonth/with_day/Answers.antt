@@ -1,7 +1,5 @@
-use Rattle.std.proofs.Common.{◌≡◌, ℕ, ◌+◌, ◌<◌, ◌≤◌, true, false, sym, refl, ap, ◌∙◌, arith, rules}
-use Rattle.calendar.specs.Dates.{month_length}
+use Rattle.std.proofs.Common.{◌≡◌, ◌≤◌, false, sym, arith, rules}
 use Rattle.calendar.proofs.Dating.{month_most}
-use Rattle.metering.specs.Days.{Plausible}
 use Rattle.tally.specs.declared.progress.OpenMonth.{OpenMonth}
 use Rattle.tally.specs.Progress.{progress_of, is_full}
 use Rattle.tally.proofs.Adding.{Accrued, energy_low, curtailable_low, day_energy_low, day-curtailable-low, accrued_more}
