@@ -1,6 +1,6 @@
 -- The highest item: one turn of the search for it, and that it leads the run.
 use Rattle.std.proofs.Common.{◌≡◌, ℕ, ◌+◌, ◌<◌, ◌≤◌, Bool, true, false, cond, List, [], ◌∷◌, ◌++◌, length, get_or, drop, Some, sym, refl, ap, ◌∙◌, arith}
-use Rattle.std.specs.List.{AllByRecursion as All}
+use Rattle.std.specs.List.{AllByRecursion}
 use Rattle.std.proofs.lemmas.List.{at_drop_more}
 use Rattle.std.proofs.lemmas.Bool.Decides.{nat_tests}
 use Rattle.billing.specs.Highest.{lower, best, highest, Leads, Order}
@@ -32,7 +32,7 @@ module _ {X : Type 0} (low : X → X → Bool) (order : Order low) where
       elim (low x r) as (λ t. low x r ≡ t → t ≡ true) [ true ↦ λ e. refl | false ↦ λ e. sym (order.chain b x r k e) ∙ h ] refl
 
   -- what leads a run is not below its first item
-  head : (x r : X) (xs before after : List X) → x ∷ xs ≡ before ++ r ∷ after → All (λ y. low y r ≡ true) before
+  head : (x r : X) (xs before after : List X) → x ∷ xs ≡ before ++ r ∷ after → AllByRecursion (λ y. low y r ≡ true) before
       → low r x ≡ false
   head x r xs [] after e f = let i : r ≡ x = cc in rw i (same x)
   head x r xs (y ∷ ys) after e f = let i : x ≡ y = cc in order.apart x r (rw i f.0)
@@ -50,7 +50,7 @@ module _ {X : Type 0} (low : X → X → Bool) (order : Order low) where
 
   -- one more item behind the first, which is not higher
   behind : (b x r : X) (xs before after : List X) → low b x ≡ false → b ∷ xs ≡ before ++ r ∷ after
-      → All (λ y. low y r ≡ true) before → All (λ y. low r y ≡ false) after → Leads low (b ∷ x ∷ xs) r
+      → AllByRecursion (λ y. low y r ≡ true) before → AllByRecursion (λ y. low r y ≡ false) after → Leads low (b ∷ x ∷ xs) r
   behind b x r xs [] after h e f t =
       let i : r ≡ b = cc in
       let j : b ∷ x ∷ xs ≡ r ∷ x ∷ after = cc in

@@ -1,6 +1,6 @@
 -- The highest item of a run, the first among equals.
 use Rattle.std.specs.Prelude.{◌≡◌, ℕ, Bool, true, false, cond, List, [], ◌∷◌, ◌++◌, Some, None, Option, nat_lt}
-use Rattle.std.specs.List.{AllByRecursion as All}
+use Rattle.std.specs.List.{AllByRecursion}
 
 -- which of two items is the lower, by the kW that they tell
 abbrev pub lower : {X : Type 0} → (X → ℕ) → X → X → Bool
@@ -21,8 +21,8 @@ pub record Leads {X : Type 0} (low : X → X → Bool) (xs : List X) (x : X) : T
   pub before : List X
   pub after : List X
   pub split : xs ≡ before ++ x ∷ after
-  pub first : All (λ y. low y x ≡ true) before
-  pub top : All (λ y. low x y ≡ false) after
+  pub first : AllByRecursion (λ y. low y x ≡ true) before
+  pub top : AllByRecursion (λ y. low x y ≡ false) after
 
 -- the two laws of a total order that allows ties
 pub record Order {X : Type 0} (low : X → X → Bool) : Type 0 where

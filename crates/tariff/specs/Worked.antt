@@ -1,6 +1,6 @@
 -- Figures worked by hand, and that the written rules give each of them.
 use Rattle.std.specs.Prelude.{◌≡◌, ℕ, ◌-◌, true, List, [], ◌∷◌, pos, Some, None, Option}
-use Rattle.std.specs.List.{AllByRecursion as All}
+use Rattle.std.specs.List.{AllByRecursion}
 use Rattle.billing.specs.Prices.{filed}
 use Rattle.billing.specs.declared.figures.Figures.{Figures}
 use Rattle.calendar.specs.declared.season.SeasonKind.TheVariants.{Summer}
@@ -80,4 +80,4 @@ lines =
 
 -- the written rules give every worked figure
 abbrev pub WorkedFigures : Type 0
-WorkedFigures = All Stands lines
+WorkedFigures = AllByRecursion Stands lines
