@@ -54,6 +54,7 @@ impl Month {
     }
 
     // Its figures.
+    #[tactic(auto, using(crate::proofs::Limits::limited))]
     pub fn figures(&self) -> Figures
         ensures value { result ≡ figures_of self.now }
         ensures limited { Limited result }
