@@ -21,39 +21,40 @@ APART = {
 }
 
 NAMES = """
-accrued-more after-in-month after-in-year after-month-index after-rank after-year asWrong at-stop available-
-falls available-low back-and-there balance-push balanceOf baseBill basic-low basicCharge best-leads best-low
-block-low blockCharge blockSize both-windows by-kw calendar-laws cents-below cents-rises charges-low classOn
-closedAt count-date countIn counted-few counted-under credit-price-low creditLine creditOf creditPrice credited-
-holds credited-in-order credited-month credited-spans creditedMonth creditedSeason curtailable-low curtailable-
-more date-at date-in dateOf dateOf-is dateOf-number dateOf-real dateToday dated-is dates-in-order day-
-curtailable-low day-energy-low day-length day-low dayAfter dayFigures dayNumber dayOf dayTaken days-in-order
+accrued-more after-in-month after-in-year after-month-index after-rank after-year asWrong at-stop
+available-falls available-low back-and-there balance-push balanceOf baseBill basic-low basicCharge best-leads
+best-low block-low blockCharge blockSize both-windows by-kw calendar-laws cents-below cents-rises charges-low
+classOn closedAt count-date countIn counted-few counted-under credit-price-low creditLine creditOf creditPrice
+credited-holds credited-in-order credited-month credited-spans creditedMonth creditedSeason curtailable-low
+curtailable-more date-at date-in dateOf dateOf-is dateOf-number dateOf-real dateToday dated-is dates-in-order
+day-curtailable-low day-energy-low day-length day-low dayAfter dayFigures dayNumber dayOf dayTaken days-in-order
 daysOf december-spans demand-low demandCharge demandFloor demandIn demandOf distributionDemand drop-under
 during-under endingAfter energy-low energy-more enteredFor enteredHeader enteredPair err-from exactly-none
 excess-low excessCharge failing-low failure-bounded failure-price-low failurePrice faultLine february-least
-february-most figures-within figuresAt figuresIn figuresOf filed-modest firmIn first-date first-fails first-
-opens first-opens-by first-winter firstCounted firstDate firstDateIn firstDay firstDayOf first_counted five-
-orderly five-tell floor-low floor-part freeOf from-2000 from-January fromYear front-first front-push full-days
-goesOn good-day gs3evHeader halfHours halvesIn has-days has-number hasDays hasThirty headerOf held-between held-
-by-month held-credited held-from highest-leads highest-under in-its-month in-month in-next-year in-year
-inDecember inEach inLateWinter inPlace inSeason inSummer inWindows inYear inside-drop inside-part isFull isMonth
-kept-rate keptAfter keptFor keptIn keptPeak kindIn kindIndex last-date last-first last-winter lastDate
-lastDateIn lastDay lastDayOf lastTaken late-winter-spans length-parts limitOf limitedBoth mapOk maximum-both
-maximum-each maximum-grows maximum-on maximum-range measuredDay metered-bounded metered-falls meteredCredit
-meteredFailure meteredHeader meteredServes month-adjoins month-days month-holds month-in-year month-least month-
-low month-most month-stays month-turns monthAfter monthFigures monthIndex monthLength monthLine monthOf
-monthlyCharge months-adjoin months-fill months-in-order next-day non-demand-low nonDemandCharge none-or-both
-none-some noneIn notTaken nothing-before noticeOf noticesOf number-back numbered-in numberedDay of-day one-day
-only-January opens-first opensMonth ordered-by orderlyIn peakIn peakOf per-half-kwh per-kw-day periodIn periodOf
-piecesIn pricedOf progressOf quotedBy range-on reached-all reached-inside reached-more reached-near reached-none
-read-stops real-dates releasedAfter reportOf room-left same-date scheduleAt scheduleIn scheduleOf season-holds
-season-numbers seasonFirst seasonIndex seasonLast seasonOf seasons-in-order second-fails sheetAnswer sheetOf
-standby-bounded standby-falls standbyCredit standbyFailure standbyHeader standbyServes summer-days summer-first
-summer-holds summer-last summer-none summer-spans summer-unnumbered supplementary-low supply-low supplyCharge
-take-few take-under termsOf to-2099 to-2100 to-December total-both total-fewer total-grows total-last total-low
-total-more total-on total-parts total-under usage-low usageCharge wayBy weight-low window-low windowFor winter-
-days winter-first winter-holds winter-last winter-no-first winter-no-last winter-unbegun winter-unended with-
-peak withDay withinRange workedAnswer workedOf wrong-day year-adjoins year-least year-most yearLength
+february-most figures-within figuresAt figuresIn figuresOf filed-modest firmIn first-date first-fails
+first-opens first-opens-by first-winter firstCounted firstDate firstDateIn firstDay firstDayOf first_counted
+five-orderly five-tell floor-low floor-part freeOf from-2000 from-January fromYear front-first front-push
+full-days goesOn good-day gs3evHeader halfHours halvesIn has-days has-number hasDays hasThirty headerOf
+held-between held-by-month held-credited held-from highest-leads highest-under in-its-month in-month
+in-next-year in-year inDecember inEach inLateWinter inPlace inSeason inSummer inWindows inYear inside-drop
+inside-part isFull isMonth kept-rate keptAfter keptFor keptIn keptPeak kindIn kindIndex last-date last-first
+last-winter lastDate lastDateIn lastDay lastDayOf lastTaken late-winter-spans length-parts limitOf limitedBoth
+mapOk maximum-both maximum-each maximum-grows maximum-on maximum-range measuredDay metered-bounded metered-falls
+meteredCredit meteredFailure meteredHeader meteredServes month-adjoins month-days month-holds month-in-year
+month-least month-low month-most month-stays month-turns monthAfter monthFigures monthIndex monthLength
+monthLine monthOf monthlyCharge months-adjoin months-fill months-in-order next-day non-demand-low
+nonDemandCharge none-or-both none-some noneIn notTaken nothing-before noticeOf noticesOf number-back numbered-in
+numberedDay of-day one-day only-January opens-first opensMonth ordered-by orderlyIn peakIn peakOf per-half-kwh
+per-kw-day periodIn periodOf piecesIn pricedOf progressOf quotedBy range-on reached-all reached-inside
+reached-more reached-near reached-none read-stops real-dates releasedAfter reportOf room-left same-date
+scheduleAt scheduleIn scheduleOf season-holds season-numbers seasonFirst seasonIndex seasonLast seasonOf
+seasons-in-order second-fails sheetAnswer sheetOf standby-bounded standby-falls standbyCredit standbyFailure
+standbyHeader standbyServes summer-days summer-first summer-holds summer-last summer-none summer-spans
+summer-unnumbered supplementary-low supply-low supplyCharge take-few take-under termsOf to-2099 to-2100
+to-December total-both total-fewer total-grows total-last total-low total-more total-on total-parts total-under
+usage-low usageCharge wayBy weight-low window-low windowFor winter-days winter-first winter-holds winter-last
+winter-no-first winter-no-last winter-unbegun winter-unended with-peak withDay withinRange workedAnswer workedOf
+wrong-day year-adjoins year-least year-most yearLength
 """.split()
 
 # what port.py turned in the crates, for the pages: it reads none
@@ -86,7 +87,7 @@ def antt(line):
 
 
 def rust(line):
-    table = TURNED if "ghost" in line or "Prim" in line else PLAIN
+    table = PLAIN if line.lstrip().startswith("//") else TURNED
     return "".join(part if i % 2 else by(table, part) for i, part in enumerate(STRING.split(line)))
 
 

@@ -128,8 +128,8 @@ pub one_day : (n k : ℕ) → n ≤ last_day → k ≤ last_day → date_of n �
 one_day n k h l e = sym (date_of_number n h) ∙ ap day_number e ∙ date_of_number k l
 
 -- the days from a month's first to its last are in that month
-pub held-by-month : (n y m : ℕ) → 2000 ≤ y → y ≤ 2100 → 1 ≤ m → m ≤ 12 → first_day y m ≤ n → n < first_day y m + month_length y m → date_of n ≡ date y m (n - first_day y m + 1)
-held-by-month n y m a b c e f g =
+pub held_by_month : (n y m : ℕ) → 2000 ≤ y → y ≤ 2100 → 1 ≤ m → m ≤ 12 → first_day y m ≤ n → n < first_day y m + month_length y m → date_of n ≡ date y m (n - first_day y m + 1)
+held_by_month n y m a b c e f g =
     let d = date y m (n - first_day y m + 1) in
     let r : Real d = record { from_2000 = a; to_2100 = b; from_january = c; to_december = e; from_first = omega arith; to_last = omega arith } in
     let i : n ≡ day_number d = omega arith in

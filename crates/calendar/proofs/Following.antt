@@ -9,7 +9,7 @@ use Rattle.calendar.specs.Dates.{year_length, month_length, total, date, date_of
 use Rattle.calendar.specs.Laws.{Real, day_after, month_index}
 use Rattle.calendar.proofs.Choosing.{given}
 use Rattle.calendar.proofs.Counting.{total_last, total_more, total_fewer}
-use Rattle.calendar.proofs.Dating.{Count, count_of, count_date, date_at, date_of_real, date_of_number, months_fill, month_least, month_most, same_date, held-by-month}
+use Rattle.calendar.proofs.Dating.{Count, count_of, count_date, date_at, date_of_real, date_of_number, months_fill, month_least, month_most, same_date, held_by_month}
 
 -- the three ways on from a date
 pub after_in_month : (d : Date) → d.day < month_length d.year d.month → day_after d ≡ date d.year d.month (d.day + 1)
@@ -186,5 +186,5 @@ month_days m f l n a b =
           let x = ap (λ (k : CalendarMonth). first_day k.year k.month) e in
           let y = ap (λ (k : CalendarMonth). month_length k.year k.month) e in
           (omega (arith, i, x, w.first), omega (arith, i, x, y, w.last))),
-      λ g h. ap month_of (held-by-month n m.year m.month w.from_2000 (omega (arith, w.to_2099)) w.from_january w.to_december (omega (arith, w.first)) (omega (arith, w.last))),
+      λ g h. ap month_of (held_by_month n m.year m.month w.from_2000 (omega (arith, w.to_2099)) w.from_january w.to_december (omega (arith, w.first)) (omega (arith, w.last))),
     )

@@ -177,10 +177,10 @@ pub summer_days : (y n : ℕ) → 2000 ≤ y → y ≤ 2099 → n ≤ last_day
     × (first_day y 5 + 15 ≤ n → n ≤ first_day y 9 + 29 → season_of (date_of n) ≡ Some (summer y))
 summer_days y n a b h = between (summer y) (first_day y 5 + 15) (first_day y 9 + 29) n (summer_first y a b) (summer_last y a b) h
 
-pub winter-days : (y n : ℕ) → 2000 ≤ y → y ≤ 2098 → n ≤ last_day
+pub winter_days : (y n : ℕ) → 2000 ≤ y → y ≤ 2098 → n ≤ last_day
     → (season_of (date_of n) ≡ Some (winter y) → (first_day y 12 ≤ n) × (n ≤ first_day (y + 1) 3 + 30))
     × (first_day y 12 ≤ n → n ≤ first_day (y + 1) 3 + 30 → season_of (date_of n) ≡ Some (winter y))
-winter-days y n a b h =
+winter_days y n a b h =
     between (winter y) (first_day y 12) (first_day (y + 1) 3 + 30) n (winter_first y a (omega arith)) (winter_last y (omega arith) b) h
 
 unnumbered : (d : Date) → first_counted (month_of d) ≡ false → number_of d ≡ None
@@ -220,8 +220,8 @@ seasons_in_order n k s t h l e f =
     ordered s t (omega (arith, a.from, o, b.to))
 
 -- the season to which a day's month is credited holds the day
-pub credited-holds : (d : Date) (s : Season) → credited_season (month_of d) ≡ Some s → season_of d ≡ Some s
-credited-holds d s e = grind (arith, nat_tests)
+pub credited_holds : (d : Date) (s : Season) → credited_season (month_of d) ≡ Some s → season_of d ≡ Some s
+credited_holds d s e = grind (arith, nat_tests)
 
 -- and outside May the season that holds a day is the one to which its month is credited
 pub held_credited : (d : Date) (s : Season) → season_of d ≡ Some s → (d.month ≡ 5 → ⊥) → credited_season (month_of d) ≡ Some s
@@ -235,7 +235,7 @@ credited_spans m s y e =
     let d = date m.year m.month 1 in
     let b = credited_month_lem m s e in
     let least = month_least m.year m.month b.0 b.1 in
-    spanned d y (omega arith) (omega (arith, least)) s (credited-holds d s e)
+    spanned d y (omega arith) (omega (arith, least)) s (credited_holds d s e)
 
 -- nor from credited month to credited month
 pub credited_in_order : (i j : CalendarMonth) (s t : Season) → 1 ≤ i.year → month_index i ≤ month_index j → credited_season i ≡ Some s → credited_season j ≡ Some t → season_index s ≤ season_index t
@@ -267,8 +267,8 @@ first_opens_by Summer y = (refl, refl)
 first_opens_by Winter y = (refl, refl)
 
 -- the first day of a season opens it
-pub first-opens : (s : Season) (f : ℕ) → season_first s ≡ Some f → (opens (date_of f) ≡ true) × (season_of (date_of f) ≡ Some s)
-first-opens s f e =
+pub first_opens : (s : Season) (f : ℕ) → season_first s ≡ Some f → (opens (date_of f) ≡ true) × (season_of (date_of f) ≡ Some s)
+first_opens s f e =
     let b = (known (first_date s) f e).back in
     let o = first_opens_by s.kind s.year in
     (ap opens b ∙ o.0, ap season_of b ∙ o.1)

@@ -1,9 +1,9 @@
 -- The laws of the calendar, each by its lemma.
 use Rattle.calendar.specs.Laws.{CalendarLaws, SeasonNumbers, SeasonHolds}
-use Rattle.calendar.proofs.Dating.{first_date_lem, last_date_lem, date_of_real, date_of_number, one_day, held-by-month}
+use Rattle.calendar.proofs.Dating.{first_date_lem, last_date_lem, date_of_real, date_of_number, one_day, held_by_month}
 use Rattle.calendar.proofs.Numbering.{known, number_back}
 use Rattle.calendar.proofs.Following.{next_day, in_its_month, month_days, month_stays, month_turns, month_adjoins, year_adjoins, months_in_order}
-use Rattle.calendar.proofs.Holding.{summer_first, summer_last, winter_first, winter_last, summer_unnumbered, winter_unbegun, winter_unended, held_from, held_to, held_between, first_winter, last_winter, summer_days, winter-days, opens_first, first-opens, seasons_in_order, credited-holds, held_credited, credited_in_order}
+use Rattle.calendar.proofs.Holding.{summer_first, summer_last, winter_first, winter_last, summer_unnumbered, winter_unbegun, winter_unended, held_from, held_to, held_between, first_winter, last_winter, summer_days, winter_days, opens_first, first_opens, seasons_in_order, credited_holds, held_credited, credited_in_order}
 
 pub season_numbers : SeasonNumbers
 season_numbers = record {
@@ -28,7 +28,7 @@ calendar_laws = record {
   back_and_there = λ d n e. ((known d n e).within, (known d n e).back);
   one_day = one_day;
   in_its_month = in_its_month;
-  month_holds = held-by-month;
+  month_holds = held_by_month;
   month_days = month_days;
   month_stays = month_stays;
   month_turns = month_turns;
@@ -37,10 +37,10 @@ calendar_laws = record {
   season_numbers = season_numbers;
   season_holds = season_holds;
   summer_days = summer_days;
-  winter-days = winter-days;
-  opening = (opens_first, first-opens);
+  winter_days = winter_days;
+  opening = (opens_first, first_opens);
   seasons_in_order = seasons_in_order;
-  credited-holds = credited-holds;
+  credited_holds = credited_holds;
   held_credited = held_credited;
   credited_in_order = credited_in_order;
 }

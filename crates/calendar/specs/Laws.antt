@@ -175,9 +175,9 @@ pub record CalendarLaws : Type 0 where
   pub season_numbers : SeasonNumbers
   pub season_holds : SeasonHolds
   pub summer_days : SummerDays
-  pub winter-days : WinterDays
+  pub winter_days : WinterDays
   pub opening : Opening
   pub seasons_in_order : SeasonsInOrder
-  pub credited-holds : CreditedHolds
+  pub credited_holds : CreditedHolds
   pub held_credited : HeldCredited
   pub credited_in_order : CreditedInOrder

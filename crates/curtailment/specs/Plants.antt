@@ -22,8 +22,8 @@ available_low : (b : Standby) (s : SeasonKind) (f : ℕ) → available (terms_of
 available_low b s f = let p = b.whole in let q = b.spare in grind (arith, nat_tests)
 
 -- rests on the combined demand being covered by summer and standby demand
-available-falls : (b : Standby) (s : SeasonKind) (f g : ℕ) → f ≤ g → available (terms_of b) s g ≤ available (terms_of b) s f
-available-falls b s f g h = let a = above (terms_of b) s in let i = b.covered in grind (arith, nat_tests)
+available_falls : (b : Standby) (s : SeasonKind) (f g : ℕ) → f ≤ g → available (terms_of b) s g ≤ available (terms_of b) s f
+available_falls b s f g h = let a = above (terms_of b) s in let i = b.covered in grind (arith, nat_tests)
 
 weight_low : (b : Standby) (s : SeasonKind) (m : Figures) (f : ℕ) → Limited m
     → (terms_of b).hours * available (terms_of b) s f + 3500 * (m.supplementary - f) ≤ 1226000000
@@ -41,7 +41,7 @@ pub standby_falls : (b : Standby) (s : SeasonKind) (m : Figures) (f g : ℕ) →
     → standby_credit filed (terms_of b) s m g ≤ standby_credit filed (terms_of b) s m f
 standby_falls b s m f g h =
     let t = terms_of b in
-    let a = mul-le-mul_left t.hours (available-falls b s f g h) in
+    let a = mul-le-mul_left t.hours (available_falls b s f g h) in
     let w : t.hours * available t s g + 3500 * (m.supplementary - g) ≤ t.hours * available t s f + 3500 * (m.supplementary - f) = omega (arith, a) in
     let p = mul-le-mul_left (credit_price filed s) w in
     omega (arith, p)

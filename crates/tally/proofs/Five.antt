@@ -22,8 +22,8 @@ crowded : (s : Option Season) (d : Date) (ns : List Notice) → 4 < length ns �
 crowded None d ns h = refl
 crowded (Some s) d ns h = let t : leb (length ns) 4 ≡ false = grind (arith, nat_tests) in rw t
 
-five-orderly : (s : Option Season) (d : Date) (ns : List Notice) → orderly_in s d (take 5 ns) ≡ orderly_in s d ns
-five-orderly s d ns =
+five_orderly : (s : Option Season) (d : Date) (ns : List Notice) → orderly_in s d (take 5 ns) ≡ orderly_in s d ns
+five_orderly s d ns =
     elim (leb (length ns) 5) as (λ t. leb (length ns) 5 ≡ t → orderly_in s d (take 5 ns) ≡ orderly_in s d ns) [
       | true ↦ λ q. ap (orderly_in s d) (take_all 5 ns (grind (arith, nat_tests)))
       | false ↦ λ q.
@@ -35,4 +35,4 @@ five-orderly s d ns =
 pub five_tell : (d : Date) (f : FirmDemands) (ns : List Notice) → acceptance d f (take 5 ns) ≡ acceptance d f ns
 five_tell d f [] = refl
 five_tell d f (n ∷ ns) =
-    ap (λ t. cond (elects f (season_of d)) (cond t (Ok tt) (Err OutOfPlace)) (Err NotElected)) (five-orderly (season_of d) d (n ∷ ns))
+    ap (λ t. cond (elects f (season_of d)) (cond t (Ok tt) (Err OutOfPlace)) (Err NotElected)) (five_orderly (season_of d) d (n ∷ ns))

@@ -4,7 +4,7 @@ use Rattle.std.proofs.lemmas.Bool.Decides.{nat_tests}
 use Rattle.calendar.specs.Dates.{date, date_of, month_of, day_number, first_day, month_length, counted, first_counted, last_day}
 use Rattle.calendar.specs.Laws.{month_index}
 use Rattle.calendar.specs.declared.date.CalendarMonth.{CalendarMonth}
-use Rattle.calendar.proofs.Dating.{date_of_real, date_of_number, last_date_lem, held-by-month, month_least}
+use Rattle.calendar.proofs.Dating.{date_of_real, date_of_number, last_date_lem, held_by_month, month_least}
 use Rattle.calendar.proofs.Following.{months_in_order, month_adjoins, year_adjoins}
 use Rattle.tally.specs.Progress.{Progress, is_full, month_after}
 
@@ -61,7 +61,7 @@ at_first n h e = let k = date_of_number n h in omega (arith, k, e)
 pub date_in : (m : CalendarMonth) (today days : ℕ) → Placed m → today ≡ first_day m.year m.month + days
     → days < month_length m.year m.month → date m.year m.month (days + 1) ≡ date_of today
 date_in m today days p t l =
-    let h = held-by-month today m.year m.month p.from_2000 p.to_2100 p.from_january p.to_december (omega (arith, t)) (omega (arith, t, l)) in
+    let h = held_by_month today m.year m.month p.from_2000 p.to_2100 p.from_january p.to_december (omega (arith, t)) (omega (arith, t, l)) in
     let e : days + 1 ≡ today - first_day m.year m.month + 1 = omega (arith, t) in
     ap (date m.year m.month) e ∙ sym h
 

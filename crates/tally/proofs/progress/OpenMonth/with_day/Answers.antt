@@ -2,7 +2,7 @@ use Rattle.std.proofs.Common.{◌≡◌, ◌≤◌, false, sym, arith, rules}
 use Rattle.calendar.proofs.Dating.{month_most}
 use Rattle.tally.specs.declared.progress.OpenMonth.{OpenMonth}
 use Rattle.tally.specs.Progress.{progress_of, is_full}
-use Rattle.tally.proofs.Adding.{Accrued, energy_low, curtailable_low, day_energy_low, day-curtailable-low, accrued_more}
+use Rattle.tally.proofs.Adding.{Accrued, energy_low, curtailable_low, day_energy_low, day_curtailable_low, accrued_more}
 use Rattle.tally.proofs.Opening.{placed, not_full}
 use Rattle.tally.proofs.progress.OpenMonth.with_day.Goals as goal
 
@@ -24,7 +24,7 @@ pub overflow_add-sums-2 : goal.overflow_add-sums-2
 overflow_add-sums-2 c =
     let o = c.args.self.now in
     let a = curtailable_low o.days o.sums (short o) (accrued o) in
-    let b = day-curtailable-low c.figures-more.result c.figures-more.ensures.plausible in
+    let b = day_curtailable_low c.figures-more.result c.figures-more.ensures.plausible in
     search (rules, a, b)
 
 pub invariant_of-result : goal.invariant_of-result
