@@ -1,5 +1,6 @@
 -- The closed months of the season that is running, to which a later raise reaches back.
-use Rattle.std.specs.Prelude.{ℕ, ◌-◌, Bool, cond, ◌&&◌, ◌||◌, List, [], ◌∷◌, ◌++◌, map, take, ◌==◌, nat_le}
+use Rattle.std.specs.Prelude.{ℕ, ◌-◌, Bool, cond, ◌&&◌, ◌||◌, List, [], ◌∷◌, ◌++◌, map, ◌==◌, nat_le}
+use Rattle.billing.specs.Few.{items_in}
 use Rattle.billing.specs.declared.figures.Figures.{Figures}
 use Rattle.calendar.specs.declared.date.CalendarMonth.{CalendarMonth}
 use Rattle.account.specs.declared.kept.SeasonRow.{SeasonRow}
@@ -19,7 +20,7 @@ credited r = credited_month r.month r.figures r.credit
 
 -- the months that are kept, oldest first
 abbrev pub kept_in : SeasonRows → List Credited
-kept_in s = map credited (take s.count s.places)
+kept_in s = map credited (items_in s.rows)
 
 -- the month after is credited to the same season: June to August, and December to February
 abbrev pub goes_on : ℕ → Bool

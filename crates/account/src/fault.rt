@@ -7,7 +7,7 @@ use billing::fault::TermsFault;
 use metering::accept::NoticeFault;
 
 // A refusal of a call on an account; a refusal of the terms or of a day's notices is carried inside.
-#[derive(Clone, Copy)]
+#[derive(Clone, Copy, Debug, PartialEq, Eq)]
 pub enum AccountFault {
     Terms(TermsFault),
     AlreadyOpen,
@@ -46,7 +46,7 @@ impl From<NoticeFault> for AccountFault {
 }
 
 impl AccountFault {
-    // The refusal's number.
+    // The refusal's number. A table, since two cases carry a refusal of their own and so have no discriminants.
     pub fn number(self) -> u32
         ensures { result ≡ number_of self }
     {

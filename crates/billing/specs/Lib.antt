@@ -1,5 +1,6 @@
 pub mod Amounts
 pub mod Faults
+pub mod Few
 pub mod Highest
 pub mod Limits
 pub mod Months

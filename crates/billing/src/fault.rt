@@ -3,18 +3,16 @@ ghost use Rattle.std.specs.Prelude.{◌≡◌};
 ghost use Rattle.billing.specs.Faults.{number_of};
 
 // A term or figure outside its limits.
-#[derive(Clone, Copy)]
+#[derive(Clone, Copy, Debug, PartialEq, Eq)]
 pub enum TermsFault {
-    OutsideLimits,
+    OutsideLimits = 1,
 }
 
 impl TermsFault {
-    // The refusal's number.
+    // The refusal's number. A method, since `number` says more than From<TermsFault> for u32 would.
     pub fn number(self) -> u32
         ensures { result ≡ number_of self }
     {
-        match self {
-            TermsFault::OutsideLimits => 1,
-        }
+        self as u32
     }
 }

@@ -1,7 +1,7 @@
 // The plain figures of a month.
 
 // What a month tells of itself.
-#[derive(Clone, Copy)]
+#[derive(Clone, Copy, Debug, Default, PartialEq, Eq)]
 pub struct Figures {
     // its number, 1 to 12, and how many days it has
     pub number: u32,

@@ -7,7 +7,7 @@ use crate::figures::Figures;
 pub mod make;
 
 // A month whose figures keep their limits.
-#[derive(Clone, Copy)]
+#[derive(Clone, Copy, Debug, PartialEq, Eq)]
 pub struct Month {
     figures: Figures,
     ghost within: { Within figures },

@@ -73,43 +73,24 @@ total_more w i p h =
     let b : i + (p - i) ≡ p = omega arith in
     sym (ap (total w i) a) ∙ total_last w i (p - i) ∙ ap (λ (x : ℕ). total w i (p - i) + w x) b
 
--- a count of n from place i that has come to place p, with the rest still to count
-pub record Reached (w : ℕ → ℕ) (i n p rest : ℕ) : Type 0 where
-  pub from : i ≤ p
-  pub sum : total w i (p - i) + rest ≡ n
+module _ (w : ℕ → ℕ) (last i n : ℕ) where
+  -- one of the places up to the last holds the count
+  pub locate_here : i < last → n < w i → locate w (last - i) i n ≡ (i, n)
+  unfolding locate
+  locate_here h l =
+      let e : last - i ≡ suc (last - (i + 1)) = omega arith in
+      rw e (rw (lt-ltb n (w i) l))
 
-module _ (w : ℕ → ℕ) (i n : ℕ) where
-  pub reached_none : Reached w i n i n
-  reached_none =
-      let z = ap (total w i) (let e : i - i ≡ 0 = omega arith in e) in
-      record { from = omega arith; sum = omega (arith, z) }
+  -- or it goes on from the next
+  pub locate_on : i < last → w i ≤ n → locate w (last - i) i n ≡ locate w (last - (i + 1)) (i + 1) (n - w i)
+  unfolding locate
+  locate_on h g =
+      let e : last - i ≡ suc (last - (i + 1)) = omega arith in
+      rw e (rw (le-ltb n (w i) g))
 
-  module _ (p rest : ℕ) (here : Reached w i n p rest) where
-    passed : total w i (p + 1 - i) ≡ total w i (p - i) + w p
-    passed = total_more w i p here.from
-
-    -- past one more place, which takes x
-    pub reached_more : (x : ℕ) → x ≡ w p → w p ≤ rest → Reached w i n (p + 1) (rest - x)
-    reached_more x is l =
-        let e = passed in
-        record { from = omega (arith, here.from); sum = omega (arith, e, here.sum) }
-
-    -- which is not yet the last of the places that take more than n
-    pub reached_inside : (m : ℕ) → w p ≤ rest → n < total w i m → p + 1 < i + m
-    reached_inside m l h =
-        let e = passed in
-        let f = total_fewer w i (p + 1 - i) m (omega (arith, e, here.sum)) in
-        omega (arith, f, here.from)
-
-    -- the count ends where the rest is less than the place takes
-    pub reached_all : (more : ℕ) → p ≤ i + more → rest < w p → (p, rest) ≡ locate w more i n
-    reached_all more h l =
-        let b : i + (p - i) ≡ p = omega (arith, here.from) in
-        let z = ap w b in
-        sym (lands w more i (p - i) n rest (omega (arith, here.from)) (omega (arith, here.sum)) (omega (arith, z)) ∙ pair_is b refl)
-
-    -- it is at one of the places that take more than n
-    pub reached_near : (m : ℕ) → n < total w i m → p < i + m
-    reached_near m h =
-        let f = total_fewer w i (p - i) m (omega (arith, here.sum)) in
-        omega (arith, f, here.from)
+  -- the last takes all that is left
+  pub locate_end : i ≡ last → locate w (last - i) i n ≡ (last, n)
+  unfolding locate
+  locate_end h =
+      let e : last - i ≡ 0 = omega arith in
+      rw e (pair_is h refl)

@@ -32,6 +32,18 @@ february_most y = cond_both (leap y) 29 28 (λ x. x ≤ 29) (λ e. omega arith) 
 pub month_most : (y m : ℕ) → month_length y m ≤ 31
 month_most y m = let f = february_most y in grind (arith, nat_tests)
 
+-- the years before one up to 2100 have at most 36,525 days
+pub years_low : (y : ℕ) → y ≤ 2100 → total year_length 2000 (y - 2000) ≤ last_day
+years_low y h = let g = total_grows year_length 2000 (y - 2000) 100 (omega arith) in omega (arith, g)
+
+-- the months before one have at most 366 days
+pub months_low : (y m : ℕ) → m ≤ 12 → total (month_length y) 1 (m - 1) ≤ 366
+months_low y m h =
+    let g = total_grows (month_length y) 1 (m - 1) 12 (omega arith) in
+    let f = months_fill y in
+    let l = year_most y in
+    omega (arith, g, f, l)
+
 -- a day of a month is a day of its year
 pub month_in_year : (y j q : ℕ) → j ≤ 11 → q < month_length y (1 + j) → total (month_length y) 1 j + q < year_length y
 month_in_year y j q h l =

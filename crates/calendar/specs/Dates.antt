@@ -1,5 +1,5 @@
 -- Dates and day numbers: day 0 is 1 January 2000, and days are counted year by year, then month by month.
-use Rattle.std.specs.Prelude.{ℕ, zero, suc, ◌+◌, ◌-◌, ◌%◌, Bool, cond, not, ◌&&◌, ◌||◌, Some, None, Option, ◌==◌, nat_le, nat_lt}
+use Rattle.std.specs.Prelude.{ℕ, zero, suc, ◌+◌, ◌-◌, ◌/◌, ◌%◌, Bool, cond, not, ◌&&◌, ◌||◌, List, ◌++◌, codes, decimal, Some, None, Option, ◌==◌, nat_le, nat_lt}
 use Rattle.calendar.specs.declared.date.Date.{Date}
 use Rattle.calendar.specs.declared.date.CalendarMonth.{CalendarMonth}
 
@@ -92,3 +92,7 @@ numbered d =
 -- the number of a date; none where there is no such day or it has no number
 abbrev pub number_of : Date → Option ℕ
 number_of d = cond (numbered d) (Some (day_number d)) None
+
+-- a month as it is written: the year, a dash, and the tens and ones of the month
+abbrev pub month_text : CalendarMonth → List ℕ
+month_text m = decimal m.year ++ (codes "-" ++ (decimal (m.month / 10) ++ decimal (m.month % 10)))

@@ -19,11 +19,15 @@ in_december d = d.month == 12
 abbrev pub in_late_winter : Date → Bool
 in_late_winter d = nat_le 1 d.month && nat_le d.month 3
 
+-- the season of a kind that began in year y
+abbrev pub season : SeasonKind → ℕ → Season
+season kind y = record { kind = kind; year = y }
+
 abbrev pub summer : ℕ → Season
-summer y = record { kind = Summer; year = y }
+summer y = season Summer y
 
 abbrev pub winter : ℕ → Season
-winter y = record { kind = Winter; year = y }
+winter y = season Winter y
 
 -- the season that holds a day, by its kind and the year in which it began
 abbrev pub season_of : Date → Option Season

@@ -1,6 +1,6 @@
-// The lengths of years and months, and what a run of them takes together.
-ghost use Rattle.std.specs.Prelude.{◌≡◌, ◌+◌, ◌-◌, ◌*◌, ◌≤◌};
-ghost use Rattle.calendar.specs.Dates.{leap, year_length, month_length, total};
+// The lengths of years and months.
+ghost use Rattle.std.specs.Prelude.{◌≡◌, ◌≤◌};
+ghost use Rattle.calendar.specs.Dates.{leap, year_length, month_length};
 
 // Whether February has 29 days.
 pub(crate) fn is_leap(year: u32) -> bool

@@ -1,42 +1,13 @@
 // The date of a day number, and the day number of a date.
-ghost use Rattle.std.specs.Prelude.{◌≡◌, ◌+◌, ◌-◌, ◌<◌, ◌≤◌};
-ghost use Rattle.calendar.specs.Dates.{year_length, month_length, locate, last_day, date, dated, month_of, number_of};
+ghost use Rattle.std.specs.Prelude.{◌≡◌};
+ghost use Rattle.calendar.specs.Dates.{date, dated, month_of, number_of};
 
+use crate::count::{MonthsOf, Years, locate};
 use crate::date::{CalendarMonth, Date};
-use crate::length::{month_length, year_length};
+use crate::length::month_length;
 
 // The last day with a number, 1 January 2100.
 pub const LAST_DAY: u32 = 36_525;
-
-// The year that holds a day, and the days of that year before it.
-fn year_of(day: u32) -> (u32, u32)
-    requires { day ≤ last_day }
-    ensures value { result ≡ locate year_length 100 2000 day }
-    ensures inside { result.1 < year_length result.0 }
-{
-    let mut year = 2000;
-    let mut rest = day;
-    while rest >= year_length(year) {
-        rest -= year_length(year);
-        year += 1;
-    }
-    (year, rest)
-}
-
-// The month that holds a day of a year, and the days of that month before it.
-fn month_of(year: u32, day: u32) -> (u32, u32)
-    requires { day < year_length year }
-    ensures value { result ≡ locate (month_length year) 11 1 day }
-    ensures inside { result.1 < 31 }
-{
-    let mut month = 1;
-    let mut rest = day;
-    while rest >= month_length(year, month) {
-        rest -= month_length(year, month);
-        month += 1;
-    }
-    (month, rest)
-}
 
 // The date of a day number, where day 0 is 1 January 2000; none past 1 January 2100.
 pub fn date_of(day: u32) -> Option<Date>
@@ -45,8 +16,8 @@ pub fn date_of(day: u32) -> Option<Date>
     if day > LAST_DAY {
         return None;
     }
-    let (year, day_of_year) = year_of(day);
-    let (month, day_of_month) = month_of(year, day_of_year);
+    let (year, day_of_year) = locate(&Years, 2000, 2100, day);
+    let (month, day_of_month) = locate(&MonthsOf { year }, 1, 12, day_of_year);
     Some(Date::on(year, month, day_of_month + 1))
 }
 
@@ -72,17 +43,11 @@ impl Date {
     pub fn day_number(&self) -> Option<u32>
         ensures { result ≡ number_of self.now }
     {
-        let month = self.calendar_month();
-        if !month.first_is_counted() {
-            return None;
-        }
+        let first = self.calendar_month().first_day()?;
         if self.day < 1 || self.day > month_length(self.year, self.month) {
             return None;
         }
-        let number = month.days_before() + (self.day - 1);
-        if number > LAST_DAY {
-            return None;
-        }
-        Some(number)
+        let number = first + (self.day - 1);
+        (number <= LAST_DAY).then_some(number)
     }
 }

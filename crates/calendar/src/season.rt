@@ -1,44 +1,33 @@
 // The two seasons of curtailment, and which of them holds a day.
 ghost use Rattle.std.specs.Prelude.{◌≡◌};
-ghost use Rattle.calendar.specs.Seasons.{summer, winter, season_of, opens, season_first, season_last, credited_season};
+ghost use Rattle.calendar.specs.Seasons.{season, season_of, opens, season_first, season_last, credited_season};
 
 use crate::date::{CalendarMonth, Date};
 
 // Summer or winter.
-#[derive(Clone, Copy)]
+#[derive(Clone, Copy, Debug, PartialEq, Eq)]
 pub enum SeasonKind {
     Summer,
     Winter,
 }
 
 // One summer or one winter, by its kind and the year in which it began.
-#[derive(Clone, Copy)]
+#[derive(Clone, Copy, Debug, PartialEq, Eq)]
 pub struct Season {
     pub kind: SeasonKind,
     pub year: u32,
 }
 
+impl SeasonKind {
+    // The season of this kind that began in a year.
+    fn begun_in(self, year: u32) -> Season
+        ensures { result ≡ season self year }
+    {
+        Season { kind: self, year }
+    }
+}
+
 impl Season {
-    // The summer of a year.
-    fn summer(year: u32) -> Season
-        ensures { result ≡ summer year }
-    {
-        Season {
-            kind: SeasonKind::Summer,
-            year,
-        }
-    }
-
-    // The winter that began in a year.
-    fn winter(year: u32) -> Season
-        ensures { result ≡ winter year }
-    {
-        Season {
-            kind: SeasonKind::Winter,
-            year,
-        }
-    }
-
     // The number of the season's first day, 16 May or 1 December; none where that day has none.
     pub fn first_day(&self) -> Option<u32>
         ensures { result ≡ season_first self.now }
@@ -66,9 +55,9 @@ impl Date {
         ensures { result ≡ season_of self.now }
     {
         match (self.month, self.day) {
-            (5, 16..) | (6..=9, _) => Some(Season::summer(self.year)),
-            (12, _) => Some(Season::winter(self.year)),
-            (1..=3, _) => Some(Season::winter(self.year.saturating_sub(1))),
+            (5, 16..) | (6..=9, _) => Some(SeasonKind::Summer.begun_in(self.year)),
+            (12, _) => Some(SeasonKind::Winter.begun_in(self.year)),
+            (1..=3, _) => Some(SeasonKind::Winter.begun_in(self.year.saturating_sub(1))),
             _ => None,
         }
     }
@@ -77,20 +66,15 @@ impl Date {
     pub fn opens_season(&self) -> bool
         ensures { result ≡ opens self.now }
     {
-        (self.month == 5 && self.day == 16) || (self.month == 12 && self.day == 1)
+        matches!((self.month, self.day), (5, 16) | (12, 1))
     }
 }
 
 impl CalendarMonth {
-    // The season to which the month's credit belongs, if any.
+    // The season to which the month's credit belongs, if any: the one that holds its first day.
     pub fn credited_season(&self) -> Option<Season>
         ensures { result ≡ credited_season self.now }
     {
-        match self.month {
-            6..=9 => Some(Season::summer(self.year)),
-            12 => Some(Season::winter(self.year)),
-            1..=3 => Some(Season::winter(self.year.saturating_sub(1))),
-            _ => None,
-        }
+        Date::on(self.year, self.month, 1).season()
     }
 }

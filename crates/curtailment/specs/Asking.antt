@@ -2,6 +2,11 @@
 use Rattle.std.specs.Prelude.{ℕ, cond, ◌&&◌, Ok, Err, Result, nat_le}
 use Rattle.billing.specs.declared.fault.TermsFault.{TermsFault}
 use Rattle.billing.specs.declared.fault.TermsFault.TheVariants.{OutsideLimits}
+use Rattle.curtailment.specs.declared.kilowatts.Kilowatts.{Kilowatts}
+
+-- the number of kW of a demand within the limit
+abbrev pub kw_of : Kilowatts → ℕ
+kw_of d = d.kw
 
 -- asked at a firm demand
 abbrev pub limited : ℕ → ℕ → Result ℕ TermsFault

@@ -1,16 +1,18 @@
 -- The metered basis.
-use Rattle.std.specs.Prelude.{ℕ, ◌-◌, ◌*◌, Bool, cond, ◌&&◌, ◌==◌, nat_le}
+use Rattle.std.specs.Prelude.{ℕ, ◌-◌, ◌*◌, Bool, true, false, cond, ◌==◌}
 use Rattle.billing.specs.Amounts.{cents}
 use Rattle.billing.specs.Prices.{Rows}
-use Rattle.billing.specs.Schedules.{code_of}
 use Rattle.billing.specs.declared.figures.Figures.{Figures}
 use Rattle.billing.specs.declared.schedule.Schedule.{Schedule}
+use Rattle.billing.specs.declared.schedule.Schedule.TheVariants.{Gs3Ev, Eight}
 use Rattle.calendar.specs.declared.season.SeasonKind.{SeasonKind}
 use Rattle.curtailment.specs.Pricing.{credit_price, failure_price}
 
--- Schedules 5, 6, 6TS, GS-2, GS-2T, GS-3 and GS-4
+-- every schedule but GS-3EV and 8: Schedules 5, 6, 6TS, GS-2, GS-2T, GS-3 and GS-4
 abbrev pub metered_serves : Schedule → Bool
-metered_serves s = nat_le 2 (code_of s) && nat_le (code_of s) 8
+metered_serves Gs3Ev = false
+metered_serves Eight = false
+metered_serves _ = true
 
 -- the price for each kW by which the average reading in the windows exceeds the firm demand;
 -- of n readings that sum to P, the average less F is (P - n * F) / n, and without readings there is no credit

@@ -19,7 +19,7 @@ above t Summer = omega arith
 above t Winter = omega arith
 
 available_low : (b : Standby) (s : SeasonKind) (f : ℕ) → available (terms_of b) s f ≤ 100000
-available_low b s f = let p = b.whole in let q = b.spare in grind (arith, nat_tests)
+available_low b s f = let p = b.combined.within in let q = b.standby.within in grind (arith, nat_tests)
 
 -- rests on the combined demand being covered by summer and standby demand
 available_falls : (b : Standby) (s : SeasonKind) (f g : ℕ) → f ≤ g → available (terms_of b) s g ≤ available (terms_of b) s f
@@ -53,8 +53,8 @@ failing_low b k f q u v =
     grind (arith, nat_tests)
 
 supplementary_low : (b : Standby) (s : SeasonKind) → supplementary (terms_of b) s ≤ 100000
-supplementary_low b Summer = b.warm
-supplementary_low b Winter = omega (arith, b.warm, b.cold)
+supplementary_low b Summer = b.summer.within
+supplementary_low b Winter = omega (arith, b.summer.within, b.winter.within)
 
 pub failure_bounded_lem : (b : Standby) (s : SeasonKind) (f q : ℕ) → q ≤ 100000 → standby_failure filed (terms_of b) s f q ≤ 1000000000
 failure_bounded_lem b s f q v =

@@ -1,20 +1,29 @@
 -- The standby basis: its terms, credit and failure charge.
-use Rattle.std.specs.Prelude.{ℕ, ◌+◌, ◌-◌, ◌*◌, max, Bool, cond, ◌&&◌, Ok, Err, Result, ◌==◌, nat_le}
+use Rattle.std.specs.Prelude.{ℕ, ◌+◌, ◌-◌, ◌*◌, max, Bool, true, false, cond, ◌&&◌, Ok, Err, Result, nat_le}
 use Rattle.billing.specs.Amounts.{cents}
 use Rattle.billing.specs.Prices.{Rows}
-use Rattle.billing.specs.Schedules.{code_of}
 use Rattle.billing.specs.declared.fault.TermsFault.{TermsFault}
 use Rattle.billing.specs.declared.fault.TermsFault.TheVariants.{OutsideLimits}
 use Rattle.billing.specs.declared.figures.Figures.{Figures}
 use Rattle.billing.specs.declared.schedule.Schedule.{Schedule}
+use Rattle.billing.specs.declared.schedule.Schedule.TheVariants.{Eight}
 use Rattle.calendar.specs.declared.season.SeasonKind.{SeasonKind}
 use Rattle.calendar.specs.declared.season.SeasonKind.TheVariants.{Summer, Winter}
+use Rattle.curtailment.specs.Asking.{kw_of}
 use Rattle.curtailment.specs.Pricing.{credit_price, failure_price}
 use Rattle.curtailment.specs.declared.standby.Standby.{Standby}
 use Rattle.curtailment.specs.declared.standby.StandbyTerms.{StandbyTerms}
 
+-- the contract figures of a standby basis
 abbrev pub terms_of : Standby → StandbyTerms
-terms_of b = b.terms
+terms_of b =
+    record {
+      summer = kw_of b.summer;
+      winter = kw_of b.winter;
+      standby = kw_of b.standby;
+      combined = kw_of b.combined;
+      hours = b.hours;
+    }
 
 -- demands up to 100,000 kW, up to 8,760 hours, and the combined demand covered by summer and standby demand
 abbrev pub fit : StandbyTerms → Bool
@@ -31,7 +40,8 @@ agreed t = cond (fit t) (Ok t) (Err OutsideLimits)
 
 -- Schedule 8
 abbrev pub standby_serves : Schedule → Bool
-standby_serves s = code_of s == 9
+standby_serves Eight = true
+standby_serves _ = false
 
 -- the supplementary demand that counts in a season: in winter the larger of the two
 abbrev pub supplementary : StandbyTerms → SeasonKind → ℕ

@@ -5,8 +5,9 @@ ghost use Rattle.billing.specs.Months.{figures_of};
 ghost use Rattle.billing.specs.declared.figures.Figures.{Figures};
 ghost use Rattle.billing.specs.declared.schedule.Schedule.{Schedule};
 ghost use Rattle.calendar.specs.declared.season.SeasonKind.{SeasonKind};
-ghost use Rattle.curtailment.specs.Asking.{limited, limited_both};
+ghost use Rattle.curtailment.specs.Asking.{kw_of, limited, limited_both};
 
+use crate::kilowatts::Kilowatts;
 use billing::fault::TermsFault;
 use billing::month::Month;
 use billing::schedule::Schedule;
@@ -43,11 +44,33 @@ pub trait Basis {
     fn monthly_charge(&self) -> u64
         ensures { result ≡ monthly (terms self.now) };
 
-    fn credit(&self, season: SeasonKind, m: &Month, firm: u32) -> Result<u64, TermsFault>
-        ensures { result ≡ limited firm (credit (terms self.now) season (figures_of m.now) firm) };
+    // Season and firm demand stay apart, here and in the bases: one comes from the date, the other from the election.
 
+    // The credit of a month at a firm demand.
+    fn credit_at(&self, season: SeasonKind, m: &Month, firm: Kilowatts) -> u64
+        ensures { result ≡ credit (terms self.now) season (figures_of m.now) (kw_of firm) };
+
+    // The charge for a notice at a firm demand and the demand that was reached.
+    fn failure_at(&self, season: SeasonKind, firm: Kilowatts, demand: Kilowatts) -> u64
+        ensures { result ≡ failure (terms self.now) season (kw_of firm) (kw_of demand) };
+
+    // The credit of a month; a firm demand above its limit is refused.
+    fn credit(&self, season: SeasonKind, m: &Month, firm: u32) -> Result<u64, TermsFault>
+        ensures { result ≡ limited firm (credit (terms self.now) season (figures_of m.now) firm) }
+    {
+        Ok(self.credit_at(season, m, Kilowatts::try_from(firm)?))
+    }
+
+    // The charge for a notice; a demand above its limit is refused.
     fn failure_charge(&self, season: SeasonKind, firm: u32, demand: u32) -> Result<u64, TermsFault>
-        ensures { result ≡ limited_both firm demand (failure (terms self.now) season firm demand) };
+        ensures { result ≡ limited_both firm demand (failure (terms self.now) season firm demand) }
+    {
+        Ok(self.failure_at(
+            season,
+            Kilowatts::try_from(firm)?,
+            Kilowatts::try_from(demand)?,
+        ))
+    }
 
     // No money passes ten million dollars.
     ghost monthly_bounded: { (b : Self) → monthly (terms b) ≤ 1000000000 };

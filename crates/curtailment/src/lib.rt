@@ -2,6 +2,7 @@
 #![tactic(auto)]
 
 pub mod basis;
+pub mod kilowatts;
 pub mod metered;
 pub mod none;
 pub mod price;

@@ -8,15 +8,15 @@ ghost use Rattle.curtailment.specs.Loads.{metered_bounded, metered_falls};
 ghost use Rattle.std.proofs.Common.{rules};
 
 use crate::basis::Basis;
-use crate::price::{credit_price, failure_price, monthly_cents};
+use crate::kilowatts::Kilowatts;
+use crate::price::{monthly_cents, prices};
 use billing::amount::cents;
-use billing::fault::TermsFault;
 use billing::month::Month;
 use billing::schedule::Schedule;
 use calendar::season::SeasonKind;
 
 // The basis of a site with a recording meter; it has no terms of its own.
-#[derive(Clone, Copy)]
+#[derive(Clone, Copy, Debug, PartialEq, Eq)]
 pub struct Metered;
 
 impl Basis for Metered {
@@ -43,8 +43,16 @@ impl Basis for Metered {
     ghost credit_falls = { λ b s m f g w h k. metered_falls s m f g h };
 
     fn serves(&self, schedule: Schedule) -> bool {
-        let code = schedule.code();
-        2 <= code && code <= 8
+        matches!(
+            schedule,
+            Schedule::Five
+                | Schedule::Six
+                | Schedule::SixTs
+                | Schedule::Gs2
+                | Schedule::Gs2T
+                | Schedule::Gs3
+                | Schedule::Gs4
+        )
     }
 
     fn admits_firm_demand(&self) -> bool {
@@ -55,29 +63,17 @@ impl Basis for Metered {
         monthly_cents()
     }
 
-    fn credit(&self, season: SeasonKind, m: &Month, firm: u32) -> Result<u64, TermsFault> {
-        if firm > 100_000 {
-            return Err(TermsFault::OutsideLimits);
-        }
+    fn credit_at(&self, season: SeasonKind, m: &Month, firm: Kilowatts) -> u64 {
         let figures = m.figures();
-        let above = (figures.curtailable as u64).saturating_sub(
-            figures.halves as u64 * firm as u64,
-        );
-        Ok(cents(credit_price(season) * above, figures.halves))
+        let covered = u64::from(figures.halves) * u64::from(firm.kw());
+        let above = u64::from(figures.curtailable).saturating_sub(covered);
+        cents(prices(season).credit * above, figures.halves)
     }
 
-    fn failure_charge(
-        &self,
-        season: SeasonKind,
-        firm: u32,
-        demand: u32,
-    ) -> Result<u64, TermsFault> {
-        if firm > 100_000 || demand > 100_000 {
-            return Err(TermsFault::OutsideLimits);
-        }
-        Ok(cents(
-            failure_price(season) * demand.saturating_sub(firm) as u64,
+    fn failure_at(&self, season: SeasonKind, firm: Kilowatts, demand: Kilowatts) -> u64 {
+        cents(
+            prices(season).failure * u64::from(demand.above(firm).kw()),
             1,
-        ))
+        )
     }
 }

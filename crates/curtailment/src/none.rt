@@ -3,13 +3,13 @@ ghost use Rattle.std.specs.Prelude.{◌≡◌, ℕ, ◌≤◌, true, false};
 ghost use Rattle.std.proofs.Common.{rules};
 
 use crate::basis::Basis;
-use billing::fault::TermsFault;
+use crate::kilowatts::Kilowatts;
 use billing::month::Month;
 use billing::schedule::Schedule;
 use calendar::season::SeasonKind;
 
 // The basis of a site that has not chosen curtailment: any schedule, no firm demand, no money.
-#[derive(Clone, Copy)]
+#[derive(Clone, Copy, Debug, PartialEq, Eq)]
 pub struct NoBasis;
 
 impl Basis for NoBasis {
@@ -47,22 +47,11 @@ impl Basis for NoBasis {
         0
     }
 
-    fn credit(&self, _season: SeasonKind, _m: &Month, firm: u32) -> Result<u64, TermsFault> {
-        if firm > 100_000 {
-            return Err(TermsFault::OutsideLimits);
-        }
-        Ok(0)
+    fn credit_at(&self, _season: SeasonKind, _m: &Month, _firm: Kilowatts) -> u64 {
+        0
     }
 
-    fn failure_charge(
-        &self,
-        _season: SeasonKind,
-        firm: u32,
-        demand: u32,
-    ) -> Result<u64, TermsFault> {
-        if firm > 100_000 || demand > 100_000 {
-            return Err(TermsFault::OutsideLimits);
-        }
-        Ok(0)
+    fn failure_at(&self, _season: SeasonKind, _firm: Kilowatts, _demand: Kilowatts) -> u64 {
+        0
     }
 }

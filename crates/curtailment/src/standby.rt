@@ -1,11 +1,14 @@
 // The standby basis: the terms of a plant with generation of its own.
 ghost use Rattle.std.specs.Prelude.{◌+◌, ◌≤◌};
+ghost use Rattle.curtailment.specs.Asking.{kw_of};
+
+use crate::kilowatts::Kilowatts;
 
 pub mod make;
 pub mod money;
 
 // The contract figures: demands in kW, and the contract available hours of a year.
-#[derive(Clone, Copy)]
+#[derive(Clone, Copy, Debug, PartialEq, Eq)]
 pub struct StandbyTerms {
     // contract summer and winter supplementary demand
     pub summer: u32,
@@ -19,13 +22,13 @@ pub struct StandbyTerms {
 }
 
 // Terms within their limits, whose combined demand is at most the summer and the standby demand together.
-#[derive(Clone, Copy)]
+#[derive(Clone, Copy, Debug, PartialEq, Eq)]
 pub struct Standby {
-    terms: StandbyTerms,
-    ghost warm: { terms.summer ≤ 100000 },
-    ghost cold: { terms.winter ≤ 100000 },
-    ghost spare: { terms.standby ≤ 100000 },
-    ghost whole: { terms.combined ≤ 100000 },
-    ghost year: { terms.hours ≤ 8760 },
-    ghost covered: { terms.combined ≤ terms.summer + terms.standby },
+    summer: Kilowatts,
+    winter: Kilowatts,
+    standby: Kilowatts,
+    combined: Kilowatts,
+    hours: u32,
+    ghost year: { hours ≤ 8760 },
+    ghost covered: { kw_of combined ≤ kw_of summer + kw_of standby },
 }

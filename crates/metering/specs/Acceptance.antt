@@ -1,5 +1,7 @@
 -- Which notices a day may have.
 use Rattle.std.specs.Prelude.{ℕ, Bool, true, false, cond, ◌&&◌, List, [], ◌∷◌, length, ℤ, pos, negsuc, is_some, Some, None, Ok, Err, Option, Result, int_le, int_lt, nat_le}
+use Rattle.calendar.specs.BySeasons.{in_season}
+use Rattle.calendar.specs.declared.by_season.BySeason.{BySeason}
 use Rattle.calendar.specs.Seasons.{season_of, opens}
 use Rattle.calendar.specs.declared.date.Date.{Date}
 use Rattle.calendar.specs.declared.season.Season.{Season}
@@ -8,7 +10,6 @@ use Rattle.calendar.specs.declared.season.SeasonKind.TheVariants.{Summer, Winter
 use Rattle.metering.specs.Notices.{period_of}
 use Rattle.metering.specs.declared.accept.NoticeFault.{NoticeFault}
 use Rattle.metering.specs.declared.accept.NoticeFault.TheVariants.{NotElected, OutOfPlace}
-use Rattle.metering.specs.declared.firm.FirmDemands.{FirmDemands}
 use Rattle.metering.specs.declared.notice.Notice.{Notice}
 use Rattle.metering.specs.declared.period.Period.{Period}
 
@@ -17,10 +18,13 @@ abbrev pub number_of : NoticeFault → ℕ
 number_of NotElected = 11
 number_of OutOfPlace = 12
 
+-- a firm demand for each season; none where curtailment is not elected
+abbrev pub FirmDemands : Type 0
+FirmDemands = BySeason (Option ℕ)
+
 -- the firm demand of a season, if curtailment is elected for it
 abbrev pub firm_in : FirmDemands → SeasonKind → Option ℕ
-firm_in f Summer = f.summer
-firm_in f Winter = f.winter
+firm_in f s = in_season f s
 
 -- three hours before the day in summer, two in winter
 abbrev pub eve : SeasonKind → ℤ

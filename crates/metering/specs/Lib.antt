@@ -2,3 +2,4 @@ pub mod Acceptance
 pub mod Days
 pub mod Notices
 pub mod Periods
+pub mod Sums

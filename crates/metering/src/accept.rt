@@ -1,30 +1,28 @@
 // Which notices a day may have: the refusals 11 and 12.
-ghost use Rattle.std.specs.Prelude.{◌≡◌};
-ghost use Rattle.metering.specs.Acceptance.{acceptance, number_of, placed, in_place, earliest, end_of};
+ghost use Rattle.std.specs.Prelude.{◌≡◌, map};
+ghost use Rattle.metering.specs.Acceptance.{acceptance, number_of, placed, in_place, orderly, earliest, end_of};
 
 use crate::firm::FirmDemands;
-use crate::notice::Notice;
+use crate::notice::{Announced, Notice};
+use calendar::by_season::BySeason;
 use calendar::date::Date;
 use calendar::season::SeasonKind;
 
 // Why a day's notices are refused.
-#[derive(Clone, Copy)]
+#[derive(Clone, Copy, Debug, PartialEq, Eq)]
 pub enum NoticeFault {
     // a notice outside both seasons, or in one that is not elected
-    NotElected,
+    NotElected = 11,
     // more than four notices, or one out of its place
-    OutOfPlace,
+    OutOfPlace = 12,
 }
 
 impl NoticeFault {
-    // The refusal's number.
+    // The refusal's number. A method, since `number` says more than From<NoticeFault> for u32 would.
     pub fn number(self) -> u32
         ensures { result ≡ number_of self }
     {
-        match self {
-            NoticeFault::NotElected => 11,
-            NoticeFault::OutOfPlace => 12,
-        }
+        self as u32
     }
 }
 
@@ -33,25 +31,24 @@ impl Notice {
     fn end(&self, season: SeasonKind) -> i32
         ensures { result ≡ end_of season self.now }
     {
-        match self.period(season) {
-            Some(period) => period.end,
-            None => self.minute,
-        }
+        self.period(season).map_or(self.minute, |period| period.end)
     }
 
     // Whether it stands in its place: from `low` on, before the last window's end, and released after it came, if at all.
     fn is_placed(&self, season: SeasonKind, low: i32) -> bool
         ensures { result ≡ placed season low self.now }
     {
-        if self.minute < low || self.period(season).is_none() {
-            return false;
-        }
-        match self.release {
-            Some(release) => self.minute < release,
-            None => true,
-        }
+        low <= self.minute
+            && self.period(season).is_some()
+            && self.release.is_none_or(|release| self.minute < release)
     }
 }
+
+// How early on the evening before a notice may come.
+const EVE: BySeason<i32> = BySeason {
+    summer: -180,
+    winter: -120,
+};
 
 // The earliest minute of a notice on a day of a season, which is 0 on the season's first day.
 fn earliest_minute(season: SeasonKind, date: &Date) -> i32
@@ -60,18 +57,17 @@ fn earliest_minute(season: SeasonKind, date: &Date) -> i32
     if date.opens_season() {
         return 0;
     }
-    match season {
-        SeasonKind::Summer => -180,
-        SeasonKind::Winter => -120,
-    }
+    EVE.of_season(season)
 }
 
 // Whether each notice stands in its place, none before the end of the one before it.
-fn are_placed(season: SeasonKind, low: i32, notices: &[Notice]) -> bool
-    ensures { result ≡ in_place season low low notices.now }
+fn are_placed<N: Announced>(season: SeasonKind, low: i32, notices: &[N]) -> bool
+    ensures { result ≡ in_place season low low (map N.notice notices.now) }
 {
     let mut after = low;
-    for notice in notices {
+    // A `for`, since each notice's end is carried to the next; `all` would have to alter `after` from its closure.
+    for announced in notices {
+        let notice = announced.notice();
         if !notice.is_placed(season, low) || notice.minute < after {
             return false;
         }
@@ -80,22 +76,35 @@ fn are_placed(season: SeasonKind, low: i32, notices: &[Notice]) -> bool
     true
 }
 
-// Whether a day may have these notices under these firm demands, and if not, why.
-pub fn accept(date: &Date, firm: &FirmDemands, notices: &[Notice]) -> Result<(), NoticeFault>
-    ensures { result ≡ acceptance date.now firm.now notices.now }
+// Whether there are at most four notices, each in its place.
+fn are_orderly<N: Announced>(season: SeasonKind, date: &Date, notices: &[N]) -> bool
+    ensures { result ≡ orderly season date.now (map N.notice notices.now) }
+{
+    notices.len() <= 4 && are_placed(season, earliest_minute(season, date), notices)
+}
+
+// Whether a day may have what stands for these notices under these firm demands, and if not, why.
+pub fn accept_all<N: Announced>(
+    date: &Date,
+    firm: &FirmDemands,
+    notices: &[N],
+) -> Result<(), NoticeFault>
+    ensures { result ≡ acceptance date.now firm.now (map N.notice notices.now) }
 {
     if notices.is_empty() {
         return Ok(());
     }
-    let Some(season) = date.season() else {
-        return Err(NoticeFault::NotElected);
-    };
-    if firm.of_season(season.kind).is_none() {
-        return Err(NoticeFault::NotElected);
-    }
-    let low = earliest_minute(season.kind, date);
-    if notices.len() > 4 || !are_placed(season.kind, low, notices) {
+    let season = date.season().ok_or(NoticeFault::NotElected)?;
+    firm.of_season(season.kind).ok_or(NoticeFault::NotElected)?;
+    if !are_orderly(season.kind, date, notices) {
         return Err(NoticeFault::OutOfPlace);
     }
     Ok(())
+}
+
+// Whether a day may have these notices under these firm demands, and if not, why.
+pub fn accept(date: &Date, firm: &FirmDemands, notices: &[Notice]) -> Result<(), NoticeFault>
+    ensures { result ≡ acceptance date.now firm.now notices.now }
+{
+    accept_all(date, firm, notices)
 }

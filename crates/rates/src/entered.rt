@@ -8,7 +8,7 @@ use billing::schedule::Schedule;
 pub mod make;
 
 // A rate whose bill is what is entered; its schedule is one of those with codes 2 to 9.
-#[derive(Clone, Copy)]
+#[derive(Clone, Copy, Debug, PartialEq, Eq)]
 pub struct Entered {
     schedule: Schedule,
     ghost other: { 2 ≤ code_of schedule },

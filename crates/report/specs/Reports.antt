@@ -7,11 +7,14 @@ use Rattle.rates.specs.declared.gs3ev.Billing.{Billing}
 use Rattle.rates.specs.declared.gs3ev.Billing.TheVariants as billing
 use Rattle.worksheet.specs.Sheets.{sheet_of}
 use Rattle.worksheet.specs.Text.{pieces}
-use Rattle.worksheet.specs.Wrongs.{reason}
+use Rattle.worksheet.specs.Wrongs.{fault_text}
+use Rattle.calendar.specs.Dates.{month_text}
 use Rattle.report.specs.Works.{worked_of}
 use Rattle.worksheet.specs.declared.header.RateTerms.{RateTerms}
 use Rattle.worksheet.specs.declared.header.RateTerms.TheVariants as rate
-use Rattle.worksheet.specs.declared.wrong.Wrong.{Wrong}
+use Rattle.worksheet.specs.declared.wrong.Wrong as wrong
+use Rattle.report.specs.declared.print.ReportError.{ReportError}
+use Rattle.report.specs.declared.print.ReportError.TheVariants.{Worksheet, OutOfMemory}
 use Rattle.report.specs.declared.print.Way.{Way}
 use Rattle.report.specs.declared.print.Way.TheVariants as ways
 use Rattle.worksheet.specs.declared.sheet.Fault.{Fault}
@@ -38,26 +41,15 @@ way ways.Entered = codes "entered"
 
 -- the month and its days
 abbrev pub month_line : Sheet → List ℕ
-month_line s =
-    codes "MONTH "
-    ++ (decimal s.header.month.year
-    ++ (codes "-"
-    ++ (decimal (s.header.month.month / 10)
-    ++ (decimal (s.header.month.month % 10)
-    ++ (codes " OF "
-    ++ (decimal s.figures.days
-    ++ codes " DAYS\n"))))))
+month_line s = codes "MONTH " ++ (month_text s.header.month ++ (codes " OF " ++ (decimal s.figures.days ++ codes " DAYS\n")))
 
--- its energy in kWh, of which a reading is half, and its demand
+-- a sum of half-hour readings in kWh, of which a reading is half, with a tenth
+abbrev pub energy_text : ℕ → List ℕ
+energy_text n = decimal (n / 2) ++ (codes "." ++ decimal (n % 2 * 5))
+
+-- its energy and its demand
 abbrev pub measures : Figures → List ℕ
-measures m =
-    codes "ENERGY "
-    ++ (decimal (m.energy / 2)
-    ++ (codes "."
-    ++ (decimal (m.energy % 2 * 5)
-    ++ (codes " KWH\nDEMAND "
-    ++ (decimal m.peak
-    ++ codes " KW\n")))))
+measures m = codes "ENERGY " ++ (energy_text m.energy ++ (codes " KWH\nDEMAND " ++ (decimal m.peak ++ codes " KW\n")))
 
 -- how it was billed, charges and floor, and the larger of them
 abbrev pub sums : Way → Worked → List ℕ
@@ -83,9 +75,9 @@ report_of s worked =
 
 -- the line that is wrong, and why
 abbrev pub fault_line : Fault → List ℕ
-fault_line f = codes "line " ++ (decimal f.line ++ (codes ": " ++ (reason f.wrong ++ codes "\n")))
+fault_line f = fault_text f ++ codes "\n"
 
-abbrev worked_answer : Sheet → Result Worked Wrong → Bool × List ℕ
+abbrev worked_answer : Sheet → Result Worked wrong.Wrong → Bool × List ℕ
 worked_answer s (Ok worked) = (true, report_of s worked)
 worked_answer s (Err w) = (false, fault_line (record { line = 1; wrong = w }))
 
@@ -99,3 +91,26 @@ answer_of text = sheet_answer (sheet_of (pieces 10 text))
 
 abbrev pub Answers : List ℕ → Bool → List ℕ → Type 0
 Answers text accepted printed = (accepted ≡ (answer_of text).0) × (printed ≡ (answer_of text).1)
+
+-- the fault that stands against a worksheet worked out, which its terms have in the first line
+abbrev terms_fault : Result Worked wrong.Wrong → Option Fault
+terms_fault (Ok worked) = None
+terms_fault (Err w) = Some (record { line = 1; wrong = w })
+
+abbrev sheet_fault : Result Sheet Fault → Option Fault
+sheet_fault (Ok s) = terms_fault (worked_of s)
+sheet_fault (Err f) = Some f
+
+-- what is wrong with a text, if anything is
+abbrev pub fault_of : List ℕ → Option Fault
+fault_of text = sheet_fault (sheet_of (pieces 10 text))
+
+-- why there is no report: this is wrong with the text, and so the answer is that line; or memory ran out over a right one
+abbrev pub Refuses : List ℕ → ReportError → Type 0
+Refuses text (Worksheet f) = (fault_of text ≡ Some f) × Answers text false (fault_line f)
+Refuses text OutOfMemory = (answer_of text).0 ≡ true
+
+-- how that is said
+abbrev pub error_text : ReportError → List ℕ
+error_text (Worksheet f) = fault_text f
+error_text OutOfMemory = codes "memory allocation failed"

@@ -1,33 +1,44 @@
 // What is printed: the report of a worksheet, or the line that is wrong and why.
-ghost use Rattle.std.specs.Prelude.{◌≡◌, ◌++◌, IfOk, Some, string_bytes};
-ghost use Rattle.report.specs.Reports.{amount, way, way_of, month_line, measures, sums, credit_line, report_of, fault_line, Answers};
+ghost use Rattle.std.specs.Prelude.{◌≡◌, ◌++◌, true, IfOk, IfErr, Some, string_bytes};
+ghost use Rattle.report.specs.Reports.{amount, energy_text, way, way_of, credit_line, report_of, error_text, Answers, Refuses};
+ghost use Rattle.report.specs.declared.print.ReportError.TheVariants.{Worksheet, OutOfMemory};
 
 use crate::work::{Worked, work};
 use billing::amount::cents;
 use billing::figures::Figures;
 use rates::gs3ev::Billing;
 use std::alloc::{AllocError, Global};
+use std::error::Error;
 use std::fmt;
 use worksheet::header::RateTerms;
 use worksheet::sheet::{Fault, Sheet, read_sheet};
 
 // An amount in cents, shown as dollars with two digits of cents.
-#[derive(Clone, Copy)]
+#[derive(Clone, Copy, Debug, PartialEq, Eq)]
 pub struct Dollars(pub u64);
 
 impl fmt::Display for Dollars {
     ghost output = { λ d. Some (amount d.0) };
 
     fn fmt<W: fmt::Write>(&self, f: &mut fmt::Formatter<W>) -> fmt::Result {
-        let whole = self.0 / 100;
-        let tens = self.0 / 10 % 10;
-        let ones = self.0 % 10;
-        write!(f, "{whole}.{tens}{ones}")
+        write!(f, "{}.{}{}", self.0 / 100, self.0 / 10 % 10, self.0 % 10)
+    }
+}
+
+// A sum of half-hour readings in kW, shown in kWh with a tenth.
+#[derive(Clone, Copy, Debug, PartialEq, Eq)]
+pub struct Energy(pub u32);
+
+impl fmt::Display for Energy {
+    ghost output = { λ e. Some (energy_text e.0) };
+
+    fn fmt<W: fmt::Write>(&self, f: &mut fmt::Formatter<W>) -> fmt::Result {
+        write!(f, "{}.{}", self.0 / 2, self.0 % 2 * 5)
     }
 }
 
 // How the month was billed.
-#[derive(Clone, Copy)]
+#[derive(Clone, Copy, Debug, PartialEq, Eq)]
 pub enum Way {
     NonDemand,
     Demand,
@@ -47,125 +58,117 @@ impl Way {
             },
         }
     }
+}
 
-    // Its word.
-    pub(crate) fn word(self) -> &'static str
-        ensures { result.now ≡ way self }
-    {
-        match self {
+impl fmt::Display for Way {
+    ghost output = { λ w. Some (way w) };
+
+    fn fmt<W: fmt::Write>(&self, f: &mut fmt::Formatter<W>) -> fmt::Result {
+        f.write_str(match self {
             Way::NonDemand => "non-demand",
             Way::Demand => "demand",
             Way::Entered => "entered",
+        })
+    }
+}
+
+// The credit in cents, shown as a line where there is a basis.
+#[derive(Clone, Copy)]
+struct CreditLine(Option<u64>);
+
+impl fmt::Display for CreditLine {
+    ghost output = { λ c. Some (credit_line c.0) };
+
+    fn fmt<W: fmt::Write>(&self, f: &mut fmt::Formatter<W>) -> fmt::Result {
+        match self.0 {
+            Some(credit) => write!(f, "CREDIT {}\n", Dollars(credit)),
+            None => Ok(()),
         }
     }
 }
 
-// The line of the month.
-fn month_line(heap: Global, sheet: &Sheet) -> Result<String, AllocError>
-    ensures { IfOk result (λ s. string_bytes s ≡ month_line sheet.now) }
-{
-    let year = sheet.header.month.year;
-    let tens = sheet.header.month.month / 10;
-    let ones = sheet.header.month.month % 10;
-    let days = sheet.figures.days;
-    format!(in heap; "MONTH {year}-{tens}{ones} OF {days} DAYS\n")
+// A worksheet that was worked out, shown as its report.
+#[derive(Clone, Copy)]
+struct Report<'a> {
+    sheet: &'a Sheet,
+    worked: &'a Worked,
 }
 
-// The lines that say what was measured.
-fn measures(heap: Global, figures: &Figures) -> Result<String, AllocError>
-    ensures { IfOk result (λ s. string_bytes s ≡ measures figures.now) }
-{
-    let whole = figures.energy / 2;
-    let tenth = figures.energy % 2 * 5;
-    let peak = figures.peak;
-    format!(in heap; "ENERGY {whole}.{tenth} KWH\nDEMAND {peak} KW\n")
-}
+impl fmt::Display for Report<'_> {
+    ghost output = { λ r. Some (report_of r.sheet.now r.worked.now) };
 
-// The lines of the bill.
-fn sums(heap: Global, way: Way, worked: &Worked) -> Result<String, AllocError>
-    ensures { IfOk result (λ s. string_bytes s ≡ sums way worked.now) }
-{
-    let word = way.word();
-    let charges = Dollars(cents(worked.charges, 1));
-    let floor = Dollars(cents(worked.floor, 1));
-    let bill = Dollars(worked.bill);
-    format!(in heap; "BILLING {word}\nCHARGES {charges}\nFLOOR {floor}\nBILL {bill}\n")
-}
-
-// The line of the credit, where there is a basis.
-fn credit_line(heap: Global, credit: Option<u64>) -> Result<String, AllocError>
-    ensures { IfOk result (λ s. string_bytes s ≡ credit_line credit) }
-{
-    match credit {
-        Some(amount) => {
-            let amount = Dollars(amount);
-            format!(in heap; "CREDIT {amount}\n")
-        }
-        None => Ok(String::new(heap)),
+    fn fmt<W: fmt::Write>(&self, f: &mut fmt::Formatter<W>) -> fmt::Result {
+        let figures = &self.sheet.figures;
+        let worked = self.worked;
+        let way = Way::of_month(&self.sheet.header.rate, figures);
+        let charges = Dollars(cents(worked.charges, 1));
+        let floor = Dollars(cents(worked.floor, 1));
+        write!(
+            f,
+            "MONTH {} OF {} DAYS\n",
+            self.sheet.header.month, figures.days
+        )?;
+        write!(
+            f,
+            "ENERGY {} KWH\nDEMAND {} KW\n",
+            Energy(figures.energy),
+            figures.peak
+        )?;
+        write!(
+            f,
+            "BILLING {way}\nCHARGES {charges}\nFLOOR {floor}\nBILL {}\n",
+            Dollars(worked.bill)
+        )?;
+        write!(f, "{}", CreditLine(worked.credit))
     }
 }
 
-// The report of a worksheet that was worked out.
-pub(crate) fn report(heap: Global, sheet: &Sheet, worked: &Worked) -> Result<String, AllocError>
-    ensures { IfOk result (λ s. string_bytes s ≡ report_of sheet.now worked.now) }
-{
-    let mut text = month_line(heap, sheet)?;
-    let measured = measures(heap, &sheet.figures)?;
-    text.push_str(measured.as_str())?;
-    let bill = sums(
-        heap,
-        Way::of_month(&sheet.header.rate, &sheet.figures),
-        worked,
-    )?;
-    text.push_str(bill.as_str())?;
-    let credit = credit_line(heap, worked.credit)?;
-    text.push_str(credit.as_str())?;
-    Ok(text)
+// Why there is no report: the worksheet is wrong, or memory ran out.
+#[derive(Clone, Copy, Debug, PartialEq, Eq)]
+pub enum ReportError {
+    Worksheet(Fault),
+    OutOfMemory,
 }
 
-// The line that is wrong, and why.
-pub(crate) fn explain(heap: Global, fault: &Fault) -> Result<String, AllocError>
-    ensures { IfOk result (λ s. string_bytes s ≡ fault_line fault.now) }
-{
-    let line = fault.line;
-    let reason = fault.wrong.reason();
-    format!(in heap; "line {line}: {reason}\n")
+impl From<Fault> for ReportError {
+    ghost from_gives = { λ fault e. e ≡ Worksheet fault };
+
+    fn from(fault: Fault) -> ReportError {
+        Self::Worksheet(fault)
+    }
 }
 
-// What is printed of a worksheet: its report, or the line that is wrong.
-#[derive(Drop)]
-pub struct Answer {
-    pub accepted: bool,
-    pub text: String,
+impl From<AllocError> for ReportError {
+    ghost from_gives = { λ _ e. e ≡ OutOfMemory };
+
+    fn from(_error: AllocError) -> ReportError {
+        Self::OutOfMemory
+    }
 }
 
-// The answer to a worksheet's text.
-pub fn answer_to(heap: Global, text: &[u8]) -> Result<Answer, AllocError>
-    ensures { IfOk result (λ a. Answers text.now a.accepted (string_bytes a.text)) }
-{
-    match read_sheet(text) {
-        Ok(sheet) => match work(&sheet) {
-            Ok(worked) => {
-                let text = report(heap, &sheet, &worked)?;
-                Ok(Answer {
-                    accepted: true,
-                    text,
-                })
-            }
-            Err(wrong) => {
-                let text = explain(heap, &Fault { line: 1, wrong })?;
-                Ok(Answer {
-                    accepted: false,
-                    text,
-                })
-            }
-        },
-        Err(fault) => {
-            let text = explain(heap, &fault)?;
-            Ok(Answer {
-                accepted: false,
-                text,
-            })
+impl fmt::Display for ReportError {
+    ghost output = { λ e. Some (error_text e) };
+
+    fn fmt<W: fmt::Write>(&self, f: &mut fmt::Formatter<W>) -> fmt::Result {
+        match self {
+            ReportError::Worksheet(fault) => write!(f, "{fault}"),
+            ReportError::OutOfMemory => write!(f, "memory allocation failed"),
         }
     }
+}
+
+impl Error for ReportError {}
+
+// The report of a worksheet's text, or why there is none.
+pub fn answer_to(heap: Global, text: &[u8]) -> Result<String, ReportError>
+    ensures report { IfOk result (λ s. Answers text.now true (string_bytes s)) }
+    ensures refusal { IfErr result (Refuses text.now) }
+{
+    let sheet = read_sheet(text)?;
+    let worked = work(&sheet).map_err(|wrong| Fault { line: 1, wrong })?;
+    let report = Report {
+        sheet: &sheet,
+        worked: &worked,
+    };
+    Ok(format!(in heap; "{report}")?)
 }

@@ -1,5 +1,5 @@
 // The report of a worksheet, or the line that is wrong and why; the amounts are those of `tools/expected.py`.
-use report::print::answer_to;
+use report::print::{ReportError, answer_to};
 use std::alloc::{AllocError, Global};
 use std::process::Abort;
 use std::test::Fail;
@@ -13,6 +13,7 @@ const HIGH: &str =
 // A worksheet with its first line, so many days of 1,000 kW, and a last line.
 fn sheet(heap: Global, first: &str, days: u32, last: &str) -> Result<String, AllocError> {
     let mut text = String::from_str(heap, first)?;
+    // a `for`, since each line may want memory
     for _ in 0..days {
         text.push_str("\n")?;
         text.push_str(FLAT)?;
@@ -21,11 +22,12 @@ fn sheet(heap: Global, first: &str, days: u32, last: &str) -> Result<String, All
     Ok(text)
 }
 
-// What is printed of it.
-fn printed(heap: Global, first: &str, days: u32, last: &str) -> Result<String, AllocError> {
-    let text = sheet(heap, first, days, last)?;
-    let answer = answer_to(heap, text.as_bytes())?;
-    Ok(answer.text)
+// What is printed of a worksheet: its report, or the line that is wrong.
+fn printed(heap: Global, text: &str) -> Result<String, ReportError> {
+    match answer_to(heap, text.as_bytes()) {
+        Err(ReportError::Worksheet(fault)) => Ok(format!(in heap; "{fault}\n")?),
+        answer => answer,
+    }
 }
 
 fn says(
@@ -36,7 +38,7 @@ fn says(
     last: &str,
     expected: &str,
 ) -> Result<(), Fail> {
-    let text = printed(heap, first, days, last)?;
+    let text = printed(heap, sheet(heap, first, days, last)?.as_str())?;
     assert!(rt; text.as_str() == expected);
     Ok(())
 }
@@ -142,8 +144,8 @@ fn days_that_are_wrong(rt: HostRuntime) -> Result<(), Fail> {
     )?;
     let mut text = sheet(heap, "gs3ev 2024 6 1 0 0 0", 29, "\n")?;
     text.push_str(HIGH)?;
-    let answer = answer_to(heap, text.as_bytes())?;
-    assert!(rt; answer.text.as_str() == READINGS);
+    let answer = printed(heap, text.as_str())?;
+    assert!(rt; answer.as_str() == READINGS);
     Ok(())
 }
 

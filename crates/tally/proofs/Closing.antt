@@ -1,5 +1,5 @@
 -- The figures of a full month keep a month's limits.
-use Rattle.std.proofs.Common.{◌≡◌, ℕ, ◌≤◌, true, false, cond, eqb, Some, Ok, Err, Option, Result, refl, ap, ◌∙◌, arith}
+use Rattle.std.proofs.Common.{◌≡◌, ℕ, ◌≤◌, Bool, ◌&&◌, None, true, false, cond, eqb, Some, Ok, Err, Option, Result, refl, ap, ◌∙◌, arith}
 use Rattle.std.specs.Option.{option_map}
 use Rattle.std.specs.Result.{result_ok}
 use Rattle.std.proofs.lemmas.Bool.{and_parts}
@@ -7,8 +7,8 @@ use Rattle.std.proofs.lemmas.Bool.Decides.{nat_tests}
 use Rattle.billing.specs.Limits.{has_days, modest, measured, windowed, within}
 use Rattle.billing.specs.Months.{map_ok}
 use Rattle.calendar.specs.Dates.{is_month, leap, month_length, has_thirty, counted}
-use Rattle.tally.specs.Progress.{Progress, is_full, figures_at}
-use Rattle.tally.proofs.Adding.{Accrued}
+use Rattle.tally.specs.Progress.{Progress, is_full, figures_at, closable}
+use Rattle.metering.specs.Days.{Accrued}
 
 -- a month has as many days as in a common year or in a leap year
 has_days_lem : (y m : ℕ) → is_month m ≡ true → has_days m (month_length y m) ≡ true
@@ -45,6 +45,24 @@ figures_within p b u a f h k =
     let w : windowed (figures_at p b u) ≡ true = grind (arith, nat_tests) in
     rw (days, m, e, w)
 
-pub made_of : {X Y E : Type 0} (f : X → Y) (r : Result X E) (o : Option X) (y : Y) → o ≡ result_ok r → map_ok f r ≡ Ok y → option_map f o ≡ Some y
-made_of f (Ok x) o y e h = ap (option_map f) e ∙ (let i : f x ≡ y = cc in ap Some i)
-made_of f (Err x) o y e h = absurd (let z : ◌≡◌ {A = ℕ} 0 1 = cc in omega arith)
+-- so they keep them where the two figures keep theirs, and only there
+pub within_as_closable : (p : Progress) (b u : ℕ) → Accrued p.days p.sums → is_full p ≡ true → within (figures_at p b u) ≡ closable b u
+within_as_closable p b u a f =
+    elim (closable b u) as (λ t. closable b u ≡ t → within (figures_at p b u) ≡ t) [
+      | true ↦ λ e. figures_within p b u a f (grind (arith, nat_tests)) (grind (arith, nat_tests))
+      | false ↦ λ e.
+          let m : modest (figures_at p b u) ≡ false = grind (arith, nat_tests) in
+          rw m (and_false (has_days p.month.month p.days))
+    ] refl
+  where
+    and_false : (t : Bool) → (t && false) ≡ false
+    and_false true = refl
+    and_false false = refl
+
+-- what was made, or nothing where it was refused
+pub made_of : {X Y E : Type 0} (f : X → Y) (r : Result X E) (o : Option X) (t : Bool) (y : Y) (e : E) → o ≡ result_ok r
+    → map_ok f r ≡ cond t (Ok y) (Err e) → option_map f o ≡ cond t (Some y) None
+made_of f (Ok x) o true y e h k = ap (option_map f) h ∙ (let i : f x ≡ y = cc in ap Some i)
+made_of f (Ok x) o false y e h k = absurd (let z : ◌≡◌ {A = ℕ} 0 1 = cc in omega arith)
+made_of f (Err x) o true y e h k = absurd (let z : ◌≡◌ {A = ℕ} 0 1 = cc in omega arith)
+made_of f (Err x) o false y e h k = ap (option_map f) h

@@ -1,12 +1,18 @@
 -- The notices of a calendar year, by season.
 use Rattle.std.specs.Prelude.{ℕ, ◌+◌, cond, Some, None, Option, ◌==◌, nat_le}
+use Rattle.calendar.specs.BySeasons.{in_season, with_season}
+use Rattle.calendar.specs.declared.by_season.BySeason.{BySeason}
 use Rattle.calendar.specs.declared.season.SeasonKind.{SeasonKind}
 use Rattle.calendar.specs.declared.season.SeasonKind.TheVariants.{Summer, Winter}
 use Rattle.tally.specs.declared.counts.NoticeCounts.{NoticeCounts}
 
+-- a year with its counts
+abbrev pub counts : ℕ → BySeason ℕ → NoticeCounts
+counts y n = record { year = y; notices = n }
+
 -- a year without notices so far
 abbrev pub none_in : ℕ → NoticeCounts
-none_in y = record { year = y; summer = 0; winter = 0 }
+none_in y = counts y (record { summer = 0; winter = 0 })
 
 -- the counts as they stand in a year: another year than theirs has had none
 abbrev pub carried : NoticeCounts → ℕ → NoticeCounts
@@ -19,13 +25,11 @@ limit_of Winter = 13
 
 -- how many of a season were counted
 abbrev pub count_in : NoticeCounts → SeasonKind → ℕ
-count_in c Summer = c.summer
-count_in c Winter = c.winter
+count_in c s = in_season c.notices s
 
 -- so many more in a season
 abbrev pub adding : NoticeCounts → SeasonKind → ℕ → NoticeCounts
-adding c Summer n = record { year = c.year; summer = c.summer + n; winter = c.winter }
-adding c Winter n = record { year = c.year; summer = c.summer; winter = c.winter + n }
+adding c s n = counts c.year (with_season c.notices s (count_in c s + n))
 
 abbrev pub limited : NoticeCounts → SeasonKind → ℕ → Option NoticeCounts
 limited c s n = cond (nat_le (count_in c s + n) (limit_of s)) (Some (adding c s n)) None

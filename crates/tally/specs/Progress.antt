@@ -1,16 +1,12 @@
 -- The month that is open: today, the days that were taken of it, and their sums.
-use Rattle.std.specs.Prelude.{ℕ, ◌+◌, max, Bool, cond, not, ◌&&◌, Some, None, Option, ◌==◌, nat_le, nat_lt}
+use Rattle.std.specs.Prelude.{ℕ, ◌+◌, Bool, cond, not, ◌&&◌, Some, None, Option, ◌==◌, nat_le, nat_lt}
 use Rattle.billing.specs.declared.figures.Figures.{Figures}
 use Rattle.calendar.specs.Dates.{date_of, month_of, month_length, counted, last_day_of}
 use Rattle.calendar.specs.declared.date.CalendarMonth.{CalendarMonth}
 use Rattle.calendar.specs.declared.date.Date.{Date}
+use Rattle.metering.specs.Sums.{sums_of, nothing, plus, month_figures}
 use Rattle.metering.specs.declared.day.DayFigures.{DayFigures}
-use Rattle.tally.specs.declared.measured.MeasuredDay.{MeasuredDay}
 use Rattle.tally.specs.declared.progress.OpenMonth.{OpenMonth}
-
--- what a measured day adds to its month
-abbrev pub figures_in : MeasuredDay → DayFigures
-figures_in d = d.figures
 
 -- an open month in plain numbers: the next day to be taken, the calendar month, how many of its days were taken, and their sums
 pub record Progress : Type 0 where
@@ -20,10 +16,7 @@ pub record Progress : Type 0 where
   pub sums : DayFigures
 
 abbrev pub progress_of : OpenMonth → Progress
-progress_of o = record { today = o.today; month = o.month; days = o.days; sums = o.sums }
-
-abbrev pub nothing : DayFigures
-nothing = record { energy = 0; peak = 0; curtailable = 0; halves = 0 }
+progress_of o = record { today = o.today; month = o.month; days = (sums_of o.sums).days; sums = (sums_of o.sums).figures }
 
 -- a month of which no day was taken yet
 abbrev pub begun : ℕ → CalendarMonth → Progress
@@ -45,16 +38,6 @@ is_full p = counted p.month && p.days == month_length p.month.year p.month.month
 abbrev pub date_today : Progress → Option Date
 date_today p = cond (is_full p) None (Some (date_of p.today))
 
--- the sums with one day more
-abbrev pub plus : DayFigures → DayFigures → DayFigures
-plus t f =
-    record {
-      energy = t.energy + f.energy;
-      peak = max t.peak f.peak;
-      curtailable = t.curtailable + f.curtailable;
-      halves = t.halves + f.halves;
-    }
-
 abbrev pub with_day : Progress → DayFigures → Progress
 with_day p f = record { today = p.today + 1; month = p.month; days = p.days + 1; sums = plus p.sums f }
 
@@ -68,17 +51,7 @@ last_taken p = cond (is_full p) (last_day_of p.month) None
 
 -- the month's figures, with the two that are given at its closing
 abbrev pub figures_at : Progress → ℕ → ℕ → Figures
-figures_at p supplementary entered =
-    record {
-      number = p.month.month;
-      days = p.days;
-      energy = p.sums.energy;
-      peak = p.sums.peak;
-      supplementary = supplementary;
-      entered = entered;
-      curtailable = p.sums.curtailable;
-      halves = p.sums.halves;
-    }
+figures_at p supplementary entered = month_figures p.month.month (record { days = p.days; figures = p.sums }) supplementary entered
 
 -- the two figures keep their limits: 100,000 kW, and 40 million dollars
 abbrev pub closable : ℕ → ℕ → Bool

@@ -1,25 +1,21 @@
 // The notices of a calendar year, by season.
 ghost use Rattle.std.specs.Prelude.{◌≡◌};
-ghost use Rattle.tally.specs.Counts.{none_in, carried, limit_of, counting};
+ghost use Rattle.tally.specs.Counts.{none_in, carried, counting};
 
+use calendar::by_season::BySeason;
 use calendar::season::SeasonKind;
 
+// The notices that each season may have in a calendar year.
+pub const LIMITS: BySeason<usize> = BySeason {
+    summer: 19,
+    winter: 13,
+};
+
 // How many notices a calendar year has had in its summer, and in its winter months.
-#[derive(Clone, Copy)]
+#[derive(Clone, Copy, Debug, PartialEq, Eq)]
 pub struct NoticeCounts {
     pub year: u32,
-    pub summer: usize,
-    pub winter: usize,
-}
-
-// The notices that a season may have in a calendar year.
-fn limit(season: SeasonKind) -> usize
-    ensures { result ≡ limit_of season }
-{
-    match season {
-        SeasonKind::Summer => 19,
-        SeasonKind::Winter => 13,
-    }
+    pub notices: BySeason<usize>,
 }
 
 impl NoticeCounts {
@@ -29,8 +25,10 @@ impl NoticeCounts {
     {
         NoticeCounts {
             year,
-            summer: 0,
-            winter: 0,
+            notices: BySeason {
+                summer: 0,
+                winter: 0,
+            },
         }
     }
 
@@ -54,22 +52,18 @@ impl NoticeCounts {
     ) -> Option<NoticeCounts>
         ensures { result ≡ counting self.now year season notices }
     {
-        let mut counts = self.carried_to(year);
+        let counts = self.carried_to(year);
+        // No `?`: without a season the counts stay, and are the answer.
         let Some(kind) = season else {
             return Some(counts);
         };
-        let count = match kind {
-            SeasonKind::Summer => counts.summer,
-            SeasonKind::Winter => counts.winter,
-        };
-        let more = count.checked_add(notices)?;
-        if more > limit(kind) {
+        let more = counts.notices.of_season(kind).checked_add(notices)?;
+        if more > LIMITS.of_season(kind) {
             return None;
         }
-        match kind {
-            SeasonKind::Summer => counts.summer = more,
-            SeasonKind::Winter => counts.winter = more,
-        }
-        Some(counts)
+        Some(NoticeCounts {
+            notices: counts.notices.with_season(kind, more),
+            ..counts
+        })
     }
 }

@@ -3,5 +3,4 @@
 
 pub mod counts;
 pub mod entry;
-pub mod measured;
 pub mod progress;

@@ -136,8 +136,10 @@ fn standby_failures(rt: HostRuntime) {
 
 #[test]
 fn what_each_basis_is_open_to(rt: HostRuntime) -> Result<(), Fail> {
+    // a `for`, since `?` ends it
     for code in 1..10u32 {
-        let schedule = Schedule::of_code(code).ok_or("no schedule")?;
+        let schedule = Schedule::try_from(code).ok().ok_or("no schedule")?;
+        // by the codes, which the rules list, and not by the variants, as the code does
         assert_eq!(rt; Metered.serves(schedule), 2 <= code && code <= 8);
         assert_eq!(rt; plant_serves(schedule), Some(code == 9));
         assert!(rt; NoBasis.serves(schedule));

@@ -1,4 +1,5 @@
 // Bills of GS-3EV: the line between the billings, the floor, the blocks, the minimum demand and the kept months.
+use std::process::Abort;
 use tariff::{Entered, Figures, Gs3ev, Month, Rate, Rider, Schedule, base_bill};
 
 fn month(number: u32, days: u32, peak: u32, energy: u32, entered: u32) -> Option<Month> {
@@ -30,7 +31,16 @@ fn floor(m: Option<Month>) -> Option<u64> {
     Some(floor)
 }
 
-// Rows are: number, days, peak, energy, minimum demand, supply, charges in grains, bill in cents.
+// Number, days, peak, energy, minimum demand, supply, charges in grains, bill in cents.
+type Row = (u32, u32, u32, u32, u32, bool, u64, u64);
+
+fn bills_are(rt: &impl Abort, rows: &[Row]) {
+    for &(number, days, peak, energy, minimum, supply, charges, bill) in rows {
+        let answer = quoted(month(number, days, peak, energy, 0), minimum, supply);
+        assert_eq!(rt; answer, Some((charges, bill)));
+    }
+}
+
 #[test]
 fn the_line_between_the_billings(rt: HostRuntime) {
     let rows = [
@@ -48,10 +58,7 @@ fn the_line_between_the_billings(rt: HostRuntime) {
         (6, 30, 50, 20_001, 0, true, 73_235_984_190, 244_120),
         (6, 30, 0, 0, 0, true, 4_282_800_000, 14_276),
     ];
-    for (number, days, peak, energy, minimum, supply, charges, bill) in rows {
-        let answer = quoted(month(number, days, peak, energy, 0), minimum, supply);
-        assert_eq!(rt; answer, Some((charges, bill)));
-    }
+    bills_are(&rt, &rows);
 }
 
 #[test]
@@ -67,10 +74,7 @@ fn the_blocks_and_the_minimum_demand(rt: HostRuntime) {
         (6, 30, 600, 240_000, 601, true, 196_289_820_000, 654_299),
         (6, 30, 600, 240_001, 700, true, 256_944_884_190, 856_483),
     ];
-    for (number, days, peak, energy, minimum, supply, charges, bill) in rows {
-        let answer = quoted(month(number, days, peak, energy, 0), minimum, supply);
-        assert_eq!(rt; answer, Some((charges, bill)));
-    }
+    bills_are(&rt, &rows);
 }
 
 // Number, days, peak and energy, and the floor in grains.
@@ -111,6 +115,7 @@ fn bills_after_a_peak() -> Option<(u64, u64, u64)> {
     let june = month(6, 30, 600, 240_001, 0)?;
     let mut rate = Gs3ev::new(true, 0).ok()?;
     rate.close(&high);
+    // a `for`, since each closing changes the rate
     for _ in 0..10 {
         rate.close(&low);
     }

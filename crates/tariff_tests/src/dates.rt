@@ -2,53 +2,46 @@
 use std::test::Fail;
 use tariff::{CalendarMonth, Date, Season, SeasonKind, date_of};
 
-// The season that holds a day: 0 for none, 1 for a summer, 2 for a winter, and the year in which it began.
-fn season(d: &Date) -> (u32, u32) {
-    match d.season() {
-        Some(
-            Season {
-                kind: SeasonKind::Summer,
-                year,
-            },
-        ) => (1, year),
-        Some(
-            Season {
-                kind: SeasonKind::Winter,
-                year,
-            },
-        ) => (2, year),
-        None => (0, 0),
-    }
+fn summer(year: u32) -> Option<Season> {
+    Some(Season {
+        kind: SeasonKind::Summer,
+        year,
+    })
+}
+
+fn winter(year: u32) -> Option<Season> {
+    Some(Season {
+        kind: SeasonKind::Winter,
+        year,
+    })
 }
 
 #[test]
 fn dates_and_seasons_of_day_numbers(rt: HostRuntime) -> Result<(), Fail> {
     let cases = [
-        (0, 2000, 1, 1, 2, 1999),
-        (31, 2000, 2, 1, 2, 1999),
-        (59, 2000, 2, 29, 2, 1999),
-        (60, 2000, 3, 1, 2, 1999),
-        (135, 2000, 5, 15, 0, 0),
-        (136, 2000, 5, 16, 1, 2000),
-        (273, 2000, 9, 30, 1, 2000),
-        (274, 2000, 10, 1, 0, 0),
-        (334, 2000, 11, 30, 0, 0),
-        (335, 2000, 12, 1, 2, 2000),
-        (365, 2000, 12, 31, 2, 2000),
-        (366, 2001, 1, 1, 2, 2000),
-        (456, 2001, 4, 1, 0, 0),
-        (8_918, 2024, 6, 1, 1, 2024),
-        (36_523, 2099, 12, 30, 2, 2099),
-        (36_524, 2099, 12, 31, 2, 2099),
-        (36_525, 2100, 1, 1, 2, 2099),
+        (0, 2000, 1, 1, winter(1999)),
+        (31, 2000, 2, 1, winter(1999)),
+        (59, 2000, 2, 29, winter(1999)),
+        (60, 2000, 3, 1, winter(1999)),
+        (135, 2000, 5, 15, None),
+        (136, 2000, 5, 16, summer(2000)),
+        (273, 2000, 9, 30, summer(2000)),
+        (274, 2000, 10, 1, None),
+        (334, 2000, 11, 30, None),
+        (335, 2000, 12, 1, winter(2000)),
+        (365, 2000, 12, 31, winter(2000)),
+        (366, 2001, 1, 1, winter(2000)),
+        (456, 2001, 4, 1, None),
+        (8_918, 2024, 6, 1, summer(2024)),
+        (36_523, 2099, 12, 30, winter(2099)),
+        (36_524, 2099, 12, 31, winter(2099)),
+        (36_525, 2100, 1, 1, winter(2099)),
     ];
-    for (number, year, month, day, kind, began) in cases {
+    for (number, year, month, day, season) in cases {
         let d = date_of(number).ok_or("no date")?;
-        assert_eq!(rt; d.year, year);
-        assert_eq!(rt; d.month, month);
-        assert_eq!(rt; d.day, day);
+        assert_eq!(rt; d, Date { year, month, day });
         assert_eq!(rt; d.day_number(), Some(number));
-        assert_eq!(rt; season(&d), (kind, began));
+        assert_eq!(rt; d.season(), season);
     }
     assert!(rt; date_of(36_526).is_none());
     Ok(())

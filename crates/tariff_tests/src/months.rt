@@ -1,6 +1,6 @@
 // The limits of a month's figures, and the figures of a day.
 use std::test::Fail;
-use tariff::{Figures, Month, Notice, SeasonKind, day_figures, highest};
+use tariff::{DayFigures, Figures, Month, Notice, SeasonKind, day_figures, highest};
 
 // Whether a month is accepted: number, days, energy, peak, supplementary, entered, sum and count in windows.
 fn accepted(f: (u32, u32, u32, u32, u32, u32, u32, u32)) -> bool {
@@ -35,6 +35,7 @@ fn limits_of_a_month(rt: HostRuntime) {
         ),
         (4, 30, 1_440, 1, 0, 0, 600, 600),
     ];
+    // a `for` over each table, so that a wrong row is the one that stops
     for f in good {
         assert!(rt; accepted(f));
     }
@@ -64,10 +65,13 @@ fn figures_of_a_day(rt: HostRuntime) -> Result<(), Fail> {
     day[40] = 600;
     day[13] = 650;
     let plain = day_figures(&day, None).ok_or("refused")?;
-    assert_eq!(rt; plain.energy, 6_450);
-    assert_eq!(rt; plain.peak, 700);
-    assert_eq!(rt; plain.curtailable, 0);
-    assert_eq!(rt; plain.halves, 0);
+    let expected = DayFigures {
+        energy: 6_450,
+        peak: 700,
+        curtailable: 0,
+        halves: 0,
+    };
+    assert_eq!(rt; plain, expected);
     let summer = day_figures(&day, Some(SeasonKind::Summer)).ok_or("refused")?;
     assert_eq!(rt; summer.curtailable, 1_900);
     assert_eq!(rt; summer.halves, 14);

@@ -1,13 +1,21 @@
 // Notices of every shape, the half hours of each, and which notices a day may have.
-use tariff::{Date, FirmDemands, Notice, SeasonKind, accept};
+use std::process::Abort;
+use tariff::{Date, FirmDemands, Notice, NoticeFault, SeasonKind, accept};
 
-// The first half hour of a notice and how many it has.
+// The first half hour of a notice and how many it has; (0, 0) where it has none, as the tables write it.
 fn halves(season: SeasonKind, minute: i32, release: Option<i32>) -> Option<(usize, usize)> {
     let h = Notice { minute, release }.period(season)?.half_hours();
     if h.first < h.past {
         Some((h.first, h.past - h.first))
     } else {
         Some((0, 0))
+    }
+}
+
+// Minute, release, first half hour, and how many.
+fn halves_are(rt: &impl Abort, season: SeasonKind, cases: &[(i32, Option<i32>, usize, usize)]) {
+    for &(minute, release, first, count) in cases {
+        assert_eq!(rt; halves(season, minute, release), Some((first, count)));
     }
 }
 
@@ -31,12 +39,7 @@ fn summer_notices(rt: HostRuntime) {
         (900, Some(930), 0, 0),
         (900, Some(960), 31, 1),
     ];
-    for (minute, release, first, count) in cases {
-        assert_eq!(rt;
-            halves(SeasonKind::Summer, minute, release),
-            Some((first, count))
-        );
-    }
+    halves_are(&rt, SeasonKind::Summer, &cases);
     assert_eq!(rt; halves(SeasonKind::Summer, 1_260, None), None);
 }
 
@@ -58,21 +61,15 @@ fn winter_notices(rt: HostRuntime) {
         (700, Some(1_050), 34, 1),
         (700, Some(1_019), 0, 0),
     ];
-    for (minute, release, first, count) in cases {
-        assert_eq!(rt;
-            halves(SeasonKind::Winter, minute, release),
-            Some((first, count))
-        );
-    }
+    halves_are(&rt, SeasonKind::Winter, &cases);
     assert_eq!(rt; halves(SeasonKind::Winter, 1_320, None), None);
 }
 
-// The refusal that a day's notices get, 0 for none.
-fn refusal(year: u32, month: u32, day: u32, firm: &FirmDemands, notices: &[Notice]) -> u32 {
-    match accept(&Date { year, month, day }, firm, notices) {
-        Ok(()) => 0,
-        Err(fault) => fault.number(),
-    }
+// The number of the refusal that a day's notices get, if they get one.
+fn refusal(year: u32, month: u32, day: u32, firm: &FirmDemands, notices: &[Notice]) -> Option<u32> {
+    accept(&Date { year, month, day }, firm, notices)
+        .err()
+        .map(NoticeFault::number)
 }
 
 fn at(minute: i32) -> Notice {
@@ -99,21 +96,21 @@ fn seasons_and_elections(rt: HostRuntime) {
         summer: Some(400),
         winter: None,
     };
-    assert_eq!(rt; refusal(2024, 5, 15, &both, &[at(0)]), 11);
-    assert_eq!(rt; refusal(2024, 5, 15, &both, &[]), 0);
-    assert_eq!(rt; refusal(2024, 5, 16, &both, &[at(0)]), 0);
-    assert_eq!(rt; refusal(2024, 5, 16, &both, &[at(-1)]), 12);
-    assert_eq!(rt; refusal(2024, 5, 17, &both, &[at(-180)]), 0);
-    assert_eq!(rt; refusal(2024, 5, 17, &both, &[at(-181)]), 12);
-    assert_eq!(rt; refusal(2024, 9, 30, &both, &[at(0)]), 0);
-    assert_eq!(rt; refusal(2024, 10, 1, &both, &[at(0)]), 11);
-    assert_eq!(rt; refusal(2024, 12, 1, &both, &[at(-1)]), 12);
-    assert_eq!(rt; refusal(2024, 12, 2, &both, &[at(-120)]), 0);
-    assert_eq!(rt; refusal(2024, 12, 2, &both, &[at(-121)]), 12);
-    assert_eq!(rt; refusal(2024, 12, 2, &summer, &[at(0)]), 11);
-    assert_eq!(rt; refusal(2024, 3, 31, &both, &[at(0)]), 0);
-    assert_eq!(rt; refusal(2024, 4, 1, &both, &[at(0)]), 11);
-    assert_eq!(rt; refusal(2024, 7, 1, &summer, &[at(-32_768)]), 12);
+    assert_eq!(rt; refusal(2024, 5, 15, &both, &[at(0)]), Some(11));
+    assert_eq!(rt; refusal(2024, 5, 15, &both, &[]), None);
+    assert_eq!(rt; refusal(2024, 5, 16, &both, &[at(0)]), None);
+    assert_eq!(rt; refusal(2024, 5, 16, &both, &[at(-1)]), Some(12));
+    assert_eq!(rt; refusal(2024, 5, 17, &both, &[at(-180)]), None);
+    assert_eq!(rt; refusal(2024, 5, 17, &both, &[at(-181)]), Some(12));
+    assert_eq!(rt; refusal(2024, 9, 30, &both, &[at(0)]), None);
+    assert_eq!(rt; refusal(2024, 10, 1, &both, &[at(0)]), Some(11));
+    assert_eq!(rt; refusal(2024, 12, 1, &both, &[at(-1)]), Some(12));
+    assert_eq!(rt; refusal(2024, 12, 2, &both, &[at(-120)]), None);
+    assert_eq!(rt; refusal(2024, 12, 2, &both, &[at(-121)]), Some(12));
+    assert_eq!(rt; refusal(2024, 12, 2, &summer, &[at(0)]), Some(11));
+    assert_eq!(rt; refusal(2024, 3, 31, &both, &[at(0)]), None);
+    assert_eq!(rt; refusal(2024, 4, 1, &both, &[at(0)]), Some(11));
+    assert_eq!(rt; refusal(2024, 7, 1, &summer, &[at(-32_768)]), Some(12));
 }
 
 #[test]
@@ -122,21 +119,30 @@ fn order_and_releases(rt: HostRuntime) {
         summer: Some(400),
         winter: Some(400),
     };
-    assert_eq!(rt; refusal(2024, 7, 1, &firm, &[at(1_259)]), 0);
-    assert_eq!(rt; refusal(2024, 7, 1, &firm, &[at(1_260)]), 12);
-    assert_eq!(rt; refusal(2024, 1, 5, &firm, &[at(1_319)]), 0);
-    assert_eq!(rt; refusal(2024, 1, 5, &firm, &[at(1_320)]), 12);
-    assert_eq!(rt; refusal(2024, 7, 1, &firm, &[until(900, 900)]), 12);
-    assert_eq!(rt; refusal(2024, 7, 1, &firm, &[until(900, 901), at(901)]), 0);
-    assert_eq!(rt; refusal(2024, 7, 1, &firm, &[until(900, 902), at(901)]), 12);
-    assert_eq!(rt; refusal(2024, 7, 1, &firm, &[until(-100, -50), at(-50)]), 0);
+    assert_eq!(rt; refusal(2024, 7, 1, &firm, &[at(1_259)]), None);
+    assert_eq!(rt; refusal(2024, 7, 1, &firm, &[at(1_260)]), Some(12));
+    assert_eq!(rt; refusal(2024, 1, 5, &firm, &[at(1_319)]), None);
+    assert_eq!(rt; refusal(2024, 1, 5, &firm, &[at(1_320)]), Some(12));
+    assert_eq!(rt; refusal(2024, 7, 1, &firm, &[until(900, 900)]), Some(12));
+    assert_eq!(rt;
+        refusal(2024, 7, 1, &firm, &[until(900, 901), at(901)]),
+        None
+    );
+    assert_eq!(rt;
+        refusal(2024, 7, 1, &firm, &[until(900, 902), at(901)]),
+        Some(12)
+    );
+    assert_eq!(rt;
+        refusal(2024, 7, 1, &firm, &[until(-100, -50), at(-50)]),
+        None
+    );
     assert_eq!(rt;
         refusal(2024, 7, 1, &firm, &[until(-100, -50), at(-51)]),
-        12
+        Some(12)
     );
-    assert_eq!(rt; refusal(2024, 7, 1, &firm, &[at(900), at(901)]), 12);
-    assert_eq!(rt; refusal(2024, 1, 5, &firm, &[at(650), at(660)]), 0);
-    assert_eq!(rt; refusal(2024, 1, 5, &firm, &[at(650), at(659)]), 12);
+    assert_eq!(rt; refusal(2024, 7, 1, &firm, &[at(900), at(901)]), Some(12));
+    assert_eq!(rt; refusal(2024, 1, 5, &firm, &[at(650), at(660)]), None);
+    assert_eq!(rt; refusal(2024, 1, 5, &firm, &[at(650), at(659)]), Some(12));
     assert_eq!(rt;
         refusal(
             2024,
@@ -145,7 +151,7 @@ fn order_and_releases(rt: HostRuntime) {
             &firm,
             &[until(0, 1), until(1, 2), until(2, 3), until(3, 4)],
         ),
-        0
+        None
     );
     assert_eq!(rt;
         refusal(
@@ -161,6 +167,6 @@ fn order_and_releases(rt: HostRuntime) {
                 until(4, 5),
             ],
         ),
-        12
+        Some(12)
     );
 }

@@ -1,4 +1,3 @@
-pub mod Adding
 pub mod Counting
 pub mod Ending
 pub mod Scanning

@@ -1,46 +1,36 @@
 -- Cutting a text into pieces, byte by byte, and reading numbers.
-use Rattle.std.proofs.Common.{◌≡◌, ℕ, suc, ◌+◌, ◌-◌, ◌*◌, ◌<◌, ◌≤◌, true, false, cond, ◌&&◌, eqb, ltb, List, [], ◌∷◌, ◌++◌, length, get_or, take, drop, Some, None, Option, sym, refl, ap, ◌∙◌, append_assoc, append-nil, arith}
-use Rattle.std.proofs.lemmas.List.{drop_more, take_more}
-use Rattle.worksheet.specs.Text.{onto, pieces, pieces_in, digit, read_on, number_of, before, exactly}
+use Rattle.std.proofs.Common.{◌≡◌, ℕ, Bool, position, suc, ◌+◌, ◌-◌, ◌*◌, ◌<◌, ◌≤◌, true, false, cond, ◌&&◌, eqb, ltb, List, [], ◌∷◌, ◌++◌, length, get_or, take, drop, Some, None, Option, sym, refl, ap, ◌∙◌, append_assoc, append-nil, arith}
+use Rattle.std.proofs.lemmas.List.{drop_more}
+use Rattle.std.specs.List.{position_or_len, onto_first}
+use Rattle.std.proofs.lemmas.Bool.{ltb-true, ltb-false}
+use Rattle.std.proofs.lemmas.List.Elements.{All-from_get_or}
+use Rattle.std.proofs.lemmas.List.Sums.{fails_before_first}
+use Rattle.std.proofs.lemmas.List.Splits.{slice_split_first, slice_split_none}
+use Rattle.worksheet.specs.Text.{pieces, pieces_in, digit, read_on, number_of, before, exactly}
 
--- bytes in front of the first piece
-abbrev pub front : List ℕ → List (List ℕ) → List (List ℕ)
-front [] ps = ps
-front (b ∷ bs) ps = onto b (front bs ps)
+-- which way a choice of an index went
+found : (t : Bool) (x i : ℕ) → cond t (Some x) None ≡ Some i → (t ≡ true) × (x ≡ i)
+found true x i e = let s : x ≡ i = cc in (refl, s)
+found false x i e = absurd (let z : ◌≡◌ {A = ℕ} 0 1 = cc in omega arith)
 
-front_push : (bs : List ℕ) (b : ℕ) (ps : List (List ℕ)) → front (bs ++ b ∷ []) ps ≡ front bs (onto b ps)
-front_push [] b ps = refl
-front_push (x ∷ bs) b ps = ap (onto x) (front_push bs b ps)
+missed : (t : Bool) (x : ℕ) → cond t (Some x) None ≡ None → t ≡ false
+missed true x e = absurd (let z : ◌≡◌ {A = ℕ} 0 1 = cc in omega arith)
+missed false x e = refl
 
-front_first : (bs p : List ℕ) (ps : List (List ℕ)) → front bs (p ∷ ps) ≡ (bs ++ p) ∷ ps
-front_first [] p ps = refl
-front_first (b ∷ bs) p ps = ap (onto b) (front_first bs p ps)
+module _ (stop : ℕ) (xs : List ℕ) where
+  -- the first stop at i: the piece before it and the pieces behind
+  pub at_stop : (i : ℕ) → position (λ b. eqb b stop) xs ≡ Some i → pieces stop xs ≡ take i xs ∷ pieces stop (drop (i + 1) xs)
+  at_stop i e =
+      let p = λ (b : ℕ). eqb b stop in
+      let f = found (ltb (position_or_len p xs) (length xs)) (position_or_len p xs) i e in
+      slice_split_first p xs 0 (ltb-true _ _ f.0) ∙ ap (λ k. take k xs ∷ pieces stop (drop (k + 1) xs)) f.1
 
--- the byte at i is no stop: one more byte in front
-pub no_stop : (stop : ℕ) (xs : List ℕ) (i : ℕ) → i < length xs → eqb (get_or xs i 0) stop ≡ false
-    → front (take (i + 1) xs) (pieces stop (drop (i + 1) xs)) ≡ front (take i xs) (pieces stop (drop i xs))
-no_stop stop xs i h e =
-    let b = get_or xs i 0 in
-    let p : pieces stop (drop i xs) ≡ onto b (pieces stop (drop (i + 1) xs)) =
-    ap (pieces stop) (drop_more xs i 0 h) ∙ ap (λ t. cond t ([] ∷ pieces stop (drop (i + 1) xs)) (onto b (pieces stop (drop (i + 1) xs)))) e in
-    ap (λ ys. front ys (pieces stop (drop (i + 1) xs))) (take_more xs i 0 h)
-    ∙ front_push (take i xs) b (pieces stop (drop (i + 1) xs))
-    ∙ sym (ap (front (take i xs)) p)
-
--- the byte at i is the first stop: the piece before it and the pieces behind
-pub at_stop : (stop : ℕ) (xs : List ℕ) (i : ℕ) → i < length xs → eqb (get_or xs i 0) stop ≡ true
-    → front (take i xs) (pieces stop (drop i xs)) ≡ take i xs ∷ pieces stop (drop (i + 1) xs)
-at_stop stop xs i h e =
-    let b = get_or xs i 0 in
-    let rest = pieces stop (drop (i + 1) xs) in
-    ap (λ ys. front (take i xs) (pieces stop ys)) (drop_more xs i 0 h)
-    ∙ ap (λ t. front (take i xs) (cond t ([] ∷ rest) (onto b rest))) e
-    ∙ front_first (take i xs) [] rest
-    ∙ ap (λ ys. ys ∷ rest) (append-nil (take i xs))
-
--- no stop at all: one piece
-pub one_piece : (xs : List ℕ) → front xs ([] ∷ []) ≡ xs ∷ []
-one_piece xs = front_first xs [] [] ∙ ap (λ ys. ys ∷ []) (append-nil xs)
+  -- no stop at all: one piece
+  pub one_piece : position (λ b. eqb b stop) xs ≡ None → pieces stop xs ≡ xs ∷ []
+  one_piece e =
+      let p = λ (b : ℕ). eqb b stop in
+      let m = ltb-false _ _ (missed (ltb (position_or_len p xs) (length xs)) (position_or_len p xs) e) in
+      slice_split_none p xs (All-from_get_or (λ b. p b ≡ false) xs 0 (λ k h. fails_before_first p xs k 0 (omega (arith, h, m))))
 
 -- one digit on
 module _ (n : ℕ) (xs : List ℕ) (i : ℕ) (h : i < length xs) where
@@ -76,12 +66,12 @@ pushed xs n (Some ys) = ap Some (sym (append_assoc xs (n ∷ []) ys))
 pub exactly_none : (stop : ℕ) (xs : List ℕ) → exactly 0 (pieces stop xs) ≡ None
 exactly_none stop [] = refl
 exactly_none stop (b ∷ bs) =
-    elim (eqb b stop) as (λ t. exactly 0 (cond t ([] ∷ pieces stop bs) (onto b (pieces stop bs))) ≡ None) [
+    elim (eqb b stop) as (λ t. exactly 0 (cond t ([] ∷ pieces stop bs) (onto_first b (pieces stop bs))) ≡ None) [
       | true ↦ refl
       | false ↦ first b (pieces stop bs)
     ]
   where
-    first : (b : ℕ) (ps : List (List ℕ)) → exactly 0 (onto b ps) ≡ None
+    first : (b : ℕ) (ps : List (List ℕ)) → exactly 0 (onto_first b ps) ≡ None
     first b [] = refl
     first b (p ∷ ps) = refl
 

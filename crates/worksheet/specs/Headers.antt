@@ -1,6 +1,7 @@
 -- The first line of a worksheet: the plan, the month and the terms.
 use Rattle.std.specs.Prelude.{ℕ, cond, List, [], ◌∷◌, Some, None, Ok, Err, codes, Option, Result, ◌==◌, nat_le, slice_index}
 use Rattle.std.specs.Str.{bytes_eq}
+use Rattle.std.specs.Option.{ok_or}
 use Rattle.billing.specs.Schedules.{schedule_at}
 use Rattle.billing.specs.declared.schedule.Schedule.{Schedule}
 use Rattle.billing.specs.declared.schedule.Schedule.TheVariants.{Gs3Ev, Eight}
@@ -28,6 +29,10 @@ plan_of word =
     (cond (bytes_eq word (codes "entered")) (Some plan.Entered)
     (cond (bytes_eq word (codes "metered")) (Some plan.Metered)
     (cond (bytes_eq word (codes "standby")) (Some plan.Standby) None)))
+
+-- that plan; a word that names none is wrong
+abbrev pub plan_for : List ℕ → Result Plan Wrong
+plan_for word = ok_or (plan_of word) wrong.Plan
 
 abbrev month : List ℕ → CalendarMonth
 month ns = record { year = slice_index ns 0; month = slice_index ns 1 }
@@ -77,14 +82,14 @@ standby_header (Some ns) =
       supplementary = slice_index ns 9;
     })
 
-abbrev termed : List (List ℕ) → Option Plan → Result Header Wrong
-termed words None = Err wrong.Plan
-termed words (Some plan.Gs3ev) = gs3ev_header (exactly 6 words)
-termed words (Some plan.Entered) = entered_header (exactly 5 words)
-termed words (Some plan.Metered) = metered_header (exactly 6 words)
-termed words (Some plan.Standby) = standby_header (exactly 11 words)
+abbrev termed : List (List ℕ) → Result Plan Wrong → Result Header Wrong
+termed words (Err w) = Err w
+termed words (Ok plan.Gs3ev) = gs3ev_header (exactly 6 words)
+termed words (Ok plan.Entered) = entered_header (exactly 5 words)
+termed words (Ok plan.Metered) = metered_header (exactly 6 words)
+termed words (Ok plan.Standby) = standby_header (exactly 11 words)
 
 -- the first word names the plan, and the plan says how many numbers follow
 abbrev pub header_of : List (List ℕ) → Result Header Wrong
 header_of [] = Err wrong.Plan
-header_of (word ∷ words) = termed words (plan_of word)
+header_of (word ∷ words) = termed words (plan_for word)

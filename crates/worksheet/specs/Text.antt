@@ -1,15 +1,10 @@
 -- Lines, words and numbers of a text.
+use Rattle.std.specs.List.{slice_split}
 use Rattle.std.specs.Prelude.{ℕ, zero, suc, ◌+◌, ◌-◌, ◌*◌, Bool, cond, ◌&&◌, List, [], ◌∷◌, Some, None, Option, ◌==◌, nat_le, nat_lt}
-
--- a byte in front of the first piece
-abbrev pub onto : ℕ → List (List ℕ) → List (List ℕ)
-onto b [] = (b ∷ []) ∷ []
-onto b (p ∷ ps) = (b ∷ p) ∷ ps
 
 -- the pieces of a text between its bytes `stop`: its lines, or the words of a line
 abbrev pub pieces : ℕ → List ℕ → List (List ℕ)
-pieces stop [] = [] ∷ []
-pieces stop (b ∷ bs) = cond (b == stop) ([] ∷ pieces stop bs) (onto b (pieces stop bs))
+pieces stop text = slice_split (λ b. b == stop) text
 
 -- those of what is left, if anything is
 abbrev pub pieces_in : ℕ → Option (List ℕ) → List (List ℕ)
@@ -18,6 +13,10 @@ pieces_in stop (Some text) = pieces stop text
 
 abbrev pub digit : ℕ → Bool
 digit b = nat_le 48 b && nat_le b 57
+
+-- what a digit stands for
+abbrev pub digit_of : ℕ → Option ℕ
+digit_of b = cond (digit b) (Some (b - 48)) None
 
 -- the number that n and then the digits write, if there are only digits and it is below 2^32
 abbrev pub read_on : ℕ → List ℕ → Option ℕ

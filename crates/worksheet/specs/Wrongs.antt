@@ -1,5 +1,6 @@
 -- What can be wrong with a worksheet, in words.
-use Rattle.std.specs.Prelude.{ℕ, List, codes}
+use Rattle.std.specs.Prelude.{ℕ, List, ◌++◌, codes, decimal}
+use Rattle.worksheet.specs.declared.sheet.Fault.{Fault}
 use Rattle.worksheet.specs.declared.wrong.Wrong.{Wrong}
 use Rattle.worksheet.specs.declared.wrong.Wrong.TheVariants as wrong
 
@@ -15,3 +16,7 @@ reason wrong.Missing = codes "a day is missing"
 reason wrong.More = codes "more lines than the month has days"
 reason wrong.Limits = codes "a term is outside its limits (refusal 1)"
 reason wrong.Basis = codes "the basis is not open to the schedule (refusal 5)"
+
+-- the line that is wrong, and why
+abbrev pub fault_text : Fault → List ℕ
+fault_text f = codes "line " ++ (decimal f.line ++ (codes ": " ++ reason f.wrong))

@@ -1,8 +1,7 @@
 // The first line of a worksheet: the plan, the month and the terms.
 ghost use Rattle.std.specs.Prelude.{◌≡◌};
-ghost use Rattle.worksheet.specs.Headers.{schedule_in, plan_of, entering, header_of, gs3ev_header, entered_header, metered_header, standby_header};
+ghost use Rattle.worksheet.specs.Headers.{schedule_in, plan_for, entering, header_of, gs3ev_header, entered_header, metered_header, standby_header};
 ghost use Rattle.billing.specs.Schedules.{schedule_at};
-ghost use Rattle.std.specs.Str.{bytes_eq};
 ghost use Rattle.worksheet.specs.Text.{pieces, exactly};
 
 use crate::scan::{cut, numbers};
@@ -12,7 +11,7 @@ use calendar::date::CalendarMonth;
 use curtailment::standby::StandbyTerms;
 
 // The plans that a worksheet can name.
-#[derive(Clone, Copy)]
+#[derive(Clone, Copy, Debug, PartialEq, Eq)]
 pub enum Plan {
     Gs3ev,
     Entered,
@@ -21,15 +20,17 @@ pub enum Plan {
 }
 
 // The terms of GS-3EV: whether the Company supplies the energy, the minimum demand, and the highest peak of the 11 months before.
-#[derive(Clone, Copy)]
+// 0 stands for no minimum and for no month: it asks for nothing, so no Option says more.
+#[derive(Clone, Copy, Debug, PartialEq, Eq)]
 pub struct Gs3evTerms {
+    // a plain yes or no, on which no other field depends
     pub supply: bool,
     pub minimum: u32,
     pub kept: u32,
 }
 
 // The terms of the rate: GS-3EV, or an entered bill of another schedule.
-#[derive(Clone, Copy)]
+#[derive(Clone, Copy, Debug, PartialEq, Eq)]
 pub enum RateTerms {
     Gs3ev(Gs3evTerms),
     Entered(Schedule),
@@ -47,8 +48,8 @@ impl RateTerms {
     }
 }
 
-// The terms of the basis, with the firm demand of the month's season.
-#[derive(Clone, Copy)]
+// The terms of the basis, with the firm demand of the month's season. No basis is a choice like the others, as in `curtailment`.
+#[derive(Clone, Copy, Debug, PartialEq, Eq)]
 pub enum BasisTerms {
     NoBasis,
     Metered(u32),
@@ -56,43 +57,38 @@ pub enum BasisTerms {
 }
 
 // What the first line says.
-#[derive(Clone, Copy)]
+#[derive(Clone, Copy, Debug, PartialEq, Eq)]
 pub struct Header {
     pub month: CalendarMonth,
     pub rate: RateTerms,
     // millionths of a dollar for each kWh
     pub rider: u32,
     pub basis: BasisTerms,
-    // the cents of an entered bill, and the supplementary billing demand
+    // the cents of an entered bill, and the supplementary billing demand: plain numbers, 0 where the plan has none, as a month takes them
     pub entered: u32,
     pub supplementary: u32,
 }
 
-// Whether a word is a name.
-fn is_word(word: &[u8], name: &[u8]) -> bool
-    ensures { result ≡ bytes_eq word.now name.now }
-{
-    word == name
-}
+// The plan that a word names. By `==`: of a `match` on byte strings the proof of three arms did not close.
+impl TryFrom<&[u8]> for Plan {
+    type Error = Wrong;
 
-impl Plan {
-    // The plan that a word names.
-    pub(crate) fn of_word(word: &[u8]) -> Option<Plan>
-        ensures { result ≡ plan_of word.now }
-    {
-        if is_word(word, b"gs3ev") {
-            return Some(Plan::Gs3ev);
+    ghost try_from_gives = { λ word r. r ≡ plan_for word.now };
+
+    fn try_from(word: &[u8]) -> Result<Plan, Wrong> {
+        if word == b"gs3ev".as_slice() {
+            return Ok(Plan::Gs3ev);
         }
-        if is_word(word, b"entered") {
-            return Some(Plan::Entered);
+        if word == b"entered".as_slice() {
+            return Ok(Plan::Entered);
         }
-        if is_word(word, b"metered") {
-            return Some(Plan::Metered);
+        if word == b"metered".as_slice() {
+            return Ok(Plan::Metered);
         }
-        if is_word(word, b"standby") {
-            return Some(Plan::Standby);
+        if word == b"standby".as_slice() {
+            return Ok(Plan::Standby);
         }
-        None
+        Err(Wrong::Plan)
     }
 }
 
@@ -100,10 +96,7 @@ impl Plan {
 fn gs3ev_header(line: &[u8]) -> Result<Header, Wrong>
     ensures { result ≡ gs3ev_header (exactly 6 (pieces 32 line.now)) }
 {
-    let Some(terms) = numbers::<6>(line) else {
-        return Err(Wrong::Terms);
-    };
-    let [year, month, supply, minimum, kept, rider] = terms;
+    let [year, month, supply, minimum, kept, rider] = numbers::<6>(line).ok_or(Wrong::Terms)?;
     if supply > 1 {
         return Err(Wrong::Supply);
     }
@@ -132,12 +125,9 @@ fn entering(
 ) -> Result<Header, Wrong>
     ensures { result ≡ entering month entered rider basis (schedule_at code) }
 {
-    let Some(schedule) = Schedule::of_code(code) else {
-        return Err(Wrong::Code);
-    };
     Ok(Header {
         month,
-        rate: RateTerms::Entered(schedule),
+        rate: RateTerms::Entered(Schedule::try_from(code)?),
         rider,
         basis,
         entered,
@@ -149,10 +139,7 @@ fn entering(
 fn entered_header(line: &[u8]) -> Result<Header, Wrong>
     ensures { result ≡ entered_header (exactly 5 (pieces 32 line.now)) }
 {
-    let Some(terms) = numbers::<5>(line) else {
-        return Err(Wrong::Terms);
-    };
-    let [year, month, code, entered, rider] = terms;
+    let [year, month, code, entered, rider] = numbers::<5>(line).ok_or(Wrong::Terms)?;
     entering(
         CalendarMonth { year, month },
         code,
@@ -162,14 +149,11 @@ fn entered_header(line: &[u8]) -> Result<Header, Wrong>
     )
 }
 
-// metered YEAR MONTH CODE CENTS RIDER FIRM
+// metered YEAR MONTH CODE CENTS RIDER FIRM. Not one function with the line above: arrays of five and of six numbers are two types.
 fn metered_header(line: &[u8]) -> Result<Header, Wrong>
     ensures { result ≡ metered_header (exactly 6 (pieces 32 line.now)) }
 {
-    let Some(terms) = numbers::<6>(line) else {
-        return Err(Wrong::Terms);
-    };
-    let [year, month, code, entered, rider, firm] = terms;
+    let [year, month, code, entered, rider, firm] = numbers::<6>(line).ok_or(Wrong::Terms)?;
     entering(
         CalendarMonth { year, month },
         code,
@@ -183,9 +167,6 @@ fn metered_header(line: &[u8]) -> Result<Header, Wrong>
 fn standby_header(line: &[u8]) -> Result<Header, Wrong>
     ensures { result ≡ standby_header (exactly 11 (pieces 32 line.now)) }
 {
-    let Some(terms) = numbers::<11>(line) else {
-        return Err(Wrong::Terms);
-    };
     let [
         year,
         month,
@@ -198,7 +179,7 @@ fn standby_header(line: &[u8]) -> Result<Header, Wrong>
         hours,
         supplementary,
         firm,
-    ] = terms;
+    ] = numbers::<11>(line).ok_or(Wrong::Terms)?;
     let plant = StandbyTerms {
         summer,
         winter,
@@ -221,12 +202,9 @@ pub(crate) fn read_header(line: &[u8]) -> Result<Header, Wrong>
     ensures { result ≡ header_of (pieces 32 line.now) }
 {
     let (word, rest) = cut(line, b' ');
-    let Some(plan) = Plan::of_word(word) else {
-        return Err(Wrong::Plan);
-    };
-    let Some(terms) = rest else {
-        return Err(Wrong::Terms);
-    };
+    let plan = Plan::try_from(word)?;
+    let terms = rest.ok_or(Wrong::Terms)?;
+    // One parser for each plan: the enum already is the choice, and a table of functions would say no more.
     match plan {
         Plan::Gs3ev => gs3ev_header(terms),
         Plan::Entered => entered_header(terms),

@@ -1,38 +1,44 @@
 // Lines, words and numbers of a text.
-ghost use Rattle.std.specs.Prelude.{◌≡◌, ◌∷◌};
+ghost use Rattle.std.specs.Prelude.{◌≡◌, ◌∷◌, ◌==◌, position};
 ghost use Rattle.std.specs.Option.{option_map};
-ghost use Rattle.worksheet.specs.Text.{pieces, pieces_in, number_of, exactly};
+ghost use Rattle.worksheet.specs.Text.{pieces, pieces_in, digit_of, number_of, exactly};
+
+// Where the first byte `stop` stands, if there is one.
+fn place_of(text: &[u8], stop: u8) -> Option<usize>
+    ensures { result ≡ position (λ b. b == stop) text.now }
+{
+    text.iter().position(|byte| *byte == stop)
+}
 
 // The text up to the first byte `stop`, and what comes behind that byte, if there is one.
 pub(crate) fn cut(text: &[u8], stop: u8) -> (&[u8], Option<&[u8]>)
     ensures { pieces stop text.now ≡ result.0.now ∷ pieces_in stop (option_map (λ x. x.now) result.1) }
 {
-    for (i, byte) in text.iter().enumerate() {
-        if *byte == stop {
-            return (&text[0..i], Some(&text[i + 1..]));
-        }
+    match place_of(text, stop) {
+        Some(place) => (&text[..place], Some(&text[place + 1..])),
+        None => (text, None),
     }
-    (text, None)
 }
 
-// A number in digits, up to 4,294,967,295.
+// What a digit stands for.
+fn digit(byte: u8) -> Option<u32>
+    ensures { result ≡ digit_of byte }
+{
+    byte.is_ascii_digit().then(|| u32::from(byte - b'0'))
+}
+
+// A number in digits, up to 4,294,967,295. Not str::parse, which takes a sign; and a `for`, since `?` reads better here than in try_fold.
 pub(crate) fn number(word: &[u8]) -> Option<u32>
     ensures { result ≡ number_of word.now }
 {
     if word.is_empty() {
         return None;
     }
-    let mut value = 0u64;
+    let mut value = 0u32;
     for byte in word {
-        if *byte < 48 || *byte > 57 {
-            return None;
-        }
-        value = 10 * value + (*byte - 48) as u64;
-        if value > 4_294_967_295 {
-            return None;
-        }
+        value = value.checked_mul(10)?.checked_add(digit(*byte)?)?;
     }
-    Some(value as u32)
+    Some(value)
 }
 
 // The numbers of a line with a space between each two, if it has just N.
@@ -41,13 +47,10 @@ pub(crate) fn numbers<const N: usize>(line: &[u8]) -> Option<[u32; N]>
 {
     let mut found = [0u32; N];
     let mut rest = Some(line);
-    for i in 0..N {
+    for place in found.iter_mut() {
         let (word, behind) = cut(rest?, b' ');
-        found[i] = number(word)?;
+        *place = number(word)?;
         rest = behind;
     }
-    match rest {
-        Some(_) => None,
-        None => Some(found),
-    }
+    rest.is_none().then_some(found)
 }

@@ -1,12 +1,14 @@
 // What can be wrong with a worksheet.
-ghost use Rattle.std.specs.Prelude.{◌≡◌};
+ghost use Rattle.std.specs.Prelude.{◌≡◌, Some};
 ghost use Rattle.worksheet.specs.Wrongs.{reason};
-ghost use Rattle.worksheet.specs.declared.wrong.Wrong.TheVariants.{Limits};
+ghost use Rattle.worksheet.specs.declared.wrong.Wrong.TheVariants.{Code, Limits};
 
 use billing::fault::TermsFault;
+use billing::schedule::UnknownCode;
+use std::fmt;
 
 // The reasons why a worksheet is not worked out.
-#[derive(Clone, Copy)]
+#[derive(Clone, Copy, Debug, PartialEq, Eq)]
 pub enum Wrong {
     Plan,
     Terms,
@@ -31,8 +33,28 @@ impl From<TermsFault> for Wrong {
     }
 }
 
+// A code that no schedule has.
+impl From<UnknownCode> for Wrong {
+    ghost from_gives = { λ _ r. r ≡ Code };
+
+    fn from(code: UnknownCode) -> Wrong {
+        match code {
+            UnknownCode(_) => Wrong::Code,
+        }
+    }
+}
+
+// The reason in words.
+impl fmt::Display for Wrong {
+    ghost output = { λ w. Some (reason w) };
+
+    fn fmt<W: fmt::Write>(&self, f: &mut fmt::Formatter<W>) -> fmt::Result {
+        f.write_str(self.reason())
+    }
+}
+
 impl Wrong {
-    // What is wrong, in words.
+    // What is wrong, in words, for who wants the text without a formatter; Display writes it.
     pub fn reason(self) -> &'static str
         ensures { result.now ≡ reason self }
     {

@@ -1,9 +1,10 @@
 // Keeping a closed month, and letting a season's months go.
-ghost use Rattle.std.specs.Prelude.{◌≡◌, ◌+◌, ◌<◌, ◌≤◌, cond, [], ◌∷◌, ◌++◌, take};
+ghost use Rattle.std.specs.Prelude.{◌≡◌, ◌<◌, ◌≤◌, [], ◌∷◌, ◌++◌, length};
 ghost use Rattle.billing.specs.Months.{figures_of};
 ghost use Rattle.account.specs.Seasons.{credited, kept_in, goes_on, credited_month};
 
 use crate::kept::{SeasonRow, SeasonRows};
+use billing::few::Few;
 use billing::figures::Figures;
 use billing::month::Month;
 use calendar::date::CalendarMonth;
@@ -12,10 +13,7 @@ use calendar::date::CalendarMonth;
 pub(crate) fn goes_on(month: u32) -> bool
     ensures { result ≡ goes_on month }
 {
-    match month {
-        6..=8 | 12 | 1..=2 => true,
-        _ => false,
-    }
+    matches!(month, 6..=8 | 12 | 1..=2)
 }
 
 impl SeasonRow {
@@ -30,24 +28,10 @@ impl SeasonRow {
             credit,
         }
     }
-}
 
-// A month at the place behind those in use.
-fn placed(mut places: [SeasonRow; 3], at: usize, row: SeasonRow) -> [SeasonRow; 3]
-    requires { at < 3 }
-    ensures { take (at + 1) result ≡ take at places ++ row ∷ [] }
-{
-    places[at] = row;
-    places
-}
-
-impl SeasonRows {
-    // No month.
-    pub(crate) fn none() -> SeasonRows
-        ensures kept { kept_in result ≡ [] }
-        ensures len { result.count ≡ 0 }
-    {
-        let blank = SeasonRow {
+    // January 2000 without a reading, which fills a place that is not in use.
+    fn blank() -> SeasonRow {
+        SeasonRow {
             month: CalendarMonth {
                 year: 2000,
                 month: 1,
@@ -55,30 +39,28 @@ impl SeasonRows {
             figures: Figures {
                 number: 1,
                 days: 31,
-                energy: 0,
-                peak: 0,
-                supplementary: 0,
-                entered: 0,
-                curtailable: 0,
-                halves: 0,
+                ..Figures::default()
             },
             credit: 0,
-        };
+        }
+    }
+}
+
+impl SeasonRows {
+    // No month.
+    pub(crate) fn none() -> SeasonRows
+        ensures { kept_in result ≡ [] }
+    {
         SeasonRows {
-            places: [blank; 3],
-            count: 0,
+            rows: Few::new(SeasonRow::blank()),
         }
     }
 
     // One month more, the newest.
-    pub(crate) fn with(&self, row: SeasonRow) -> SeasonRows
-        requires { self.now.count < 3 }
-        ensures kept { kept_in result ≡ kept_in self.now ++ credited row ∷ [] }
-        ensures len { result.count ≡ self.now.count + 1 }
+    pub(crate) fn keep(&mut self, row: SeasonRow)
+        requires { length (kept_in self.old) < 3 }
+        ensures { kept_in self.new ≡ kept_in self.old ++ credited row ∷ [] }
     {
-        SeasonRows {
-            places: placed(self.places, self.count, row),
-            count: self.count + 1,
-        }
+        self.rows.push(row).unwrap();
     }
 }

@@ -1,6 +1,5 @@
 // Making a month, which refuses figures outside their limits, and reading it.
-ghost use Rattle.std.specs.Prelude.{◌≡◌, ◌≤◌, ◌&&◌, ◌==◌};
-ghost use Rattle.calendar.specs.Dates.{is_month, month_length};
+ghost use Rattle.std.specs.Prelude.{◌≡◌};
 ghost use Rattle.billing.specs.Limits.{has_days, Limited};
 ghost use Rattle.billing.specs.Months.{figures_of, checked, map_ok};
 
@@ -9,27 +8,18 @@ use crate::figures::Figures;
 use crate::month::Month;
 use calendar::date::CalendarMonth;
 
-// Whether a month of this number has this many days in a year.
-fn has_days_in(year: u32, number: u32, days: u32) -> bool
-    requires { (2000 ≤ year) × (year ≤ 2099) }
-    ensures { result ≡ (is_month number && days == month_length year number) }
-{
-    match (CalendarMonth {
-        year,
-        month: number,
-    })
-    .length()
-    {
-        Some(length) => days == length,
-        None => false,
-    }
-}
-
 // Whether a month of this number can have this many days: in a common year or in a leap year.
 fn has_days(number: u32, days: u32) -> bool
     ensures { result ≡ has_days number days }
 {
-    has_days_in(2001, number, days) || has_days_in(2004, number, days)
+    let length_in = |year: u32| {
+        let month = CalendarMonth {
+            year,
+            month: number,
+        };
+        month.length()
+    };
+    length_in(2001) == Some(days) || length_in(2004) == Some(days)
 }
 
 impl Month {
@@ -38,19 +28,19 @@ impl Month {
         ensures { map_ok figures_of result ≡ checked figures }
     {
         let f = figures;
-        if !has_days(f.number, f.days) {
-            return Err(TermsFault::OutsideLimits);
+        let within = has_days(f.number, f.days)
+            && f.peak <= 100_000
+            && f.supplementary <= 100_000
+            && f.entered <= 4_000_000_000
+            && f.energy >= f.peak
+            && f.energy <= 48 * f.days * f.peak
+            && f.halves <= 20 * f.days
+            && u64::from(f.curtailable) <= u64::from(f.halves) * u64::from(f.peak);
+        if within {
+            Ok(Month { figures })
+        } else {
+            Err(TermsFault::OutsideLimits)
         }
-        if f.peak > 100_000 || f.supplementary > 100_000 || f.entered > 4_000_000_000 {
-            return Err(TermsFault::OutsideLimits);
-        }
-        if f.energy < f.peak || f.energy > 48 * f.days * f.peak {
-            return Err(TermsFault::OutsideLimits);
-        }
-        if f.halves > 20 * f.days || f.curtailable as u64 > f.halves as u64 * f.peak as u64 {
-            return Err(TermsFault::OutsideLimits);
-        }
-        Ok(Month { figures })
     }
 
     // Its figures.

@@ -8,10 +8,10 @@ ghost use Rattle.curtailment.specs.Plants.{standby_bounded, failure_bounded_lem,
 ghost use Rattle.std.proofs.Common.{rules, arith};
 
 use crate::basis::Basis;
-use crate::price::{credit_price, failure_price, monthly_cents};
+use crate::kilowatts::Kilowatts;
+use crate::price::{monthly_cents, prices};
 use crate::standby::{Standby, StandbyTerms};
 use billing::amount::cents;
-use billing::fault::TermsFault;
 use billing::month::Month;
 use billing::schedule::Schedule;
 use calendar::season::SeasonKind;
@@ -31,7 +31,7 @@ impl Basis for Standby {
 
     ghost failure = { λ t s f q. standby_failure filed t s f q };
 
-    ghost monthly_bounded = { first_of (Prim.search rules, Prim.grind (arith, Self.row.coded.inj)) };
+    ghost monthly_bounded = { Prim.search rules };
 
     ghost credit_bounded = { λ b s m f w h. standby_bounded b s m f (limited m w) };
 
@@ -40,7 +40,7 @@ impl Basis for Standby {
     ghost credit_falls = { λ b s m f g w h k. standby_falls b s m f g h };
 
     fn serves(&self, schedule: Schedule) -> bool {
-        schedule.code() == 9
+        matches!(schedule, Schedule::Eight)
     }
 
     fn admits_firm_demand(&self) -> bool {
@@ -51,27 +51,16 @@ impl Basis for Standby {
         monthly_cents()
     }
 
-    fn credit(&self, season: SeasonKind, m: &Month, firm: u32) -> Result<u64, TermsFault> {
-        if firm > 100_000 {
-            return Err(TermsFault::OutsideLimits);
-        }
-        let standby = self.terms.hours as u64 * self.available(season, firm) as u64;
-        let above = m.figures().supplementary.saturating_sub(firm) as u64;
-        Ok(cents(credit_price(season) * (standby + 3500 * above), 3500))
+    fn credit_at(&self, season: SeasonKind, m: &Month, firm: Kilowatts) -> u64 {
+        let standby = u64::from(self.hours) * u64::from(self.available(season, firm).kw());
+        let above = u64::from(m.figures().supplementary.saturating_sub(firm.kw()));
+        cents(prices(season).credit * (standby + 3500 * above), 3500)
     }
 
-    fn failure_charge(
-        &self,
-        season: SeasonKind,
-        firm: u32,
-        demand: u32,
-    ) -> Result<u64, TermsFault> {
-        if firm > 100_000 || demand > 100_000 {
-            return Err(TermsFault::OutsideLimits);
-        }
-        Ok(cents(
-            failure_price(season) * self.failing(season, firm, demand),
+    fn failure_at(&self, season: SeasonKind, firm: Kilowatts, demand: Kilowatts) -> u64 {
+        cents(
+            prices(season).failure * self.failing(season, firm, demand),
             3500,
-        ))
+        )
     }
 }

@@ -1,5 +1,5 @@
 // Making an entered rate, and what it tells.
-ghost use Rattle.std.specs.Prelude.{◌≡◌, ℕ, ◌*◌, ◌≤◌};
+ghost use Rattle.std.specs.Prelude.{◌≡◌};
 ghost use Rattle.billing.specs.Months.{map_ok};
 ghost use Rattle.rates.specs.Entering.{schedule_of, entered_for, entered_pair};
 ghost use Rattle.std.proofs.Common.{arith};
@@ -16,7 +16,7 @@ impl Entered {
     pub fn new(schedule: Schedule) -> Result<Entered, TermsFault>
         ensures { map_ok schedule_of result ≡ entered_for schedule }
     {
-        if schedule.code() < 2 {
+        if schedule == Schedule::Gs3Ev {
             return Err(TermsFault::OutsideLimits);
         }
         Ok(Entered { schedule })
@@ -41,7 +41,7 @@ impl Rate for Entered {
     }
 
     fn quote(&self, m: &Month) -> (u64, u64) {
-        (300_000 * m.figures().entered as u64, 0)
+        (300_000 * u64::from(m.figures().entered), 0)
     }
 
     fn close(&mut self, _m: &Month) {}

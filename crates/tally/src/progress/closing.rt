@@ -6,10 +6,9 @@ ghost use Rattle.billing.specs.Months.{figures_of};
 ghost use Rattle.tally.specs.Progress.{progress_of, month_after, last_taken, closed_at, turned};
 
 use crate::progress::OpenMonth;
-use billing::figures::Figures;
 use billing::month::Month;
 use calendar::date::CalendarMonth;
-use metering::day::DayFigures;
+use metering::sums::MonthSums;
 
 // The calendar month after a month.
 fn month_after(month: CalendarMonth) -> CalendarMonth
@@ -34,31 +33,20 @@ impl OpenMonth {
     pub fn last_day(&self) -> Option<u32>
         ensures { result ≡ last_taken (progress_of self.now) }
     {
-        if self.is_full() {
-            Some(self.today - 1)
-        } else {
-            None
-        }
+        self.is_full().then(|| self.today - 1)
     }
 
     // The month with the two figures that are given at its closing; none before all its days were taken, or where one is above its limit.
     pub fn closed(&self, supplementary: u32, entered: u32) -> Option<Month>
         ensures { option_map figures_of result ≡ closed_at (progress_of self.now) supplementary entered }
     {
-        if !self.is_full() || supplementary > 100_000 || entered > 4_000_000_000 {
+        if !self.is_full() {
             return None;
         }
-        Month::new(Figures {
-            number: self.month.month,
-            days: self.days,
-            energy: self.sums.energy,
-            peak: self.sums.peak,
-            supplementary,
-            entered,
-            curtailable: self.sums.curtailable,
-            halves: self.sums.halves,
-        })
-        .ok()
+        let figures = self
+            .sums
+            .month_figures(self.month.month, supplementary, entered);
+        Month::new(figures).ok()
     }
 
     // The month after, once all days of this one were taken.
@@ -71,13 +59,7 @@ impl OpenMonth {
         Some(OpenMonth {
             today: self.today,
             month: month_after(self.month),
-            days: 0,
-            sums: DayFigures {
-                energy: 0,
-                peak: 0,
-                curtailable: 0,
-                halves: 0,
-            },
+            sums: MonthSums::none(),
         })
     }
 }

@@ -1,20 +1,21 @@
 // Opening a month, and taking its days one after the other.
 ghost use Rattle.std.specs.Prelude.{◌≡◌};
 ghost use Rattle.std.specs.Option.{option_map};
-ghost use Rattle.tally.specs.Progress.{progress_of, figures_in, is_full, started, date_today, day_taken};
+ghost use Rattle.metering.specs.Sums.{figures_in};
+ghost use Rattle.tally.specs.Progress.{progress_of, is_full, started, date_today, day_taken};
 
-use crate::measured::MeasuredDay;
 use crate::progress::OpenMonth;
 use calendar::date::{CalendarMonth, Date};
-use calendar::number::date_of;
-use metering::day::DayFigures;
+use calendar::number::{LAST_DAY, date_of};
+use metering::measured::MeasuredDay;
+use metering::sums::MonthSums;
 
 impl OpenMonth {
     // The month that begins on a day; none where the day is not a month's first, or after 31 December 2099.
     pub fn start(day: u32) -> Option<OpenMonth>
         ensures { option_map progress_of result ≡ started day }
     {
-        if day > 36_524 {
+        if day >= LAST_DAY {
             return None;
         }
         let date = date_of(day)?;
@@ -24,13 +25,7 @@ impl OpenMonth {
         Some(OpenMonth {
             today: day,
             month: date.calendar_month(),
-            days: 0,
-            sums: DayFigures {
-                energy: 0,
-                peak: 0,
-                curtailable: 0,
-                halves: 0,
-            },
+            sums: MonthSums::none(),
         })
     }
 
@@ -38,10 +33,7 @@ impl OpenMonth {
     pub(crate) fn is_full(&self) -> bool
         ensures { result ≡ is_full (progress_of self.now) }
     {
-        match self.month.length() {
-            Some(length) => self.days == length,
-            None => false,
-        }
+        Some(self.sums.days()) == self.month.length()
     }
 
     // The next day to be taken.
@@ -68,7 +60,7 @@ impl OpenMonth {
         Some(Date {
             year: self.month.year,
             month: self.month.month,
-            day: self.days + 1,
+            day: self.sums.days() + 1,
         })
     }
 
@@ -76,21 +68,13 @@ impl OpenMonth {
     pub fn with_day(&self, day: &MeasuredDay) -> Option<OpenMonth>
         ensures { option_map progress_of result ≡ day_taken (progress_of self.now) (figures_in day.now) }
     {
-        if self.is_full() || self.today > 36_524 {
+        if self.is_full() || self.today >= LAST_DAY {
             return None;
         }
-        let more = day.figures();
-        let sums = DayFigures {
-            energy: self.sums.energy + more.energy,
-            peak: self.sums.peak.max(more.peak),
-            curtailable: self.sums.curtailable + more.curtailable,
-            halves: self.sums.halves + more.halves,
-        };
         Some(OpenMonth {
             today: self.today + 1,
             month: self.month,
-            days: self.days + 1,
-            sums,
+            sums: self.sums.with_day(day)?,
         })
     }
 }

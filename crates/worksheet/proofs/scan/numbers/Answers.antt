@@ -1,36 +1,43 @@
-use Rattle.std.proofs.Common.{◌<◌, length, sym, ap, ◌∙◌, arith, length-set, take_all}
-use lib.ListN.{length-replicate}
+-- One word more is read into the next place, and behind the last place nothing may follow.
+use Rattle.std.proofs.Common.{◌≡◌, ◌<◌, Bool, true, false, not, length, Some, None, sym, refl, ap, ◌∙◌, arith, length-set, take_all}
 use Rattle.std.proofs.lemmas.List.{take_more_set}
-use Rattle.std.specs.Option.{option_map}
-use Rattle.worksheet.proofs.Scanning.{begins, short, no_number, one_number, too_many, just}
+use Rattle.std.specs.Bool.{then_some}
+use Rattle.std.specs.Option.{option_map, is_some}
+use Rattle.worksheet.specs.Text.{pieces, exactly}
+use Rattle.worksheet.proofs.Scanning.{one_number, too_many, just}
 use Rattle.worksheet.proofs.scan.numbers.Goals as goal
 
-pub loop-i-init : goal.loop-i-init
-loop-i-init g c = (begins g.row.N c.args.line.now, length-replicate g.row.N 0)
-
-pub returns-in_err-rest : goal.returns-in_err-rest
-returns-in_err-rest g c =
-    c.from_residual.ensures
-    ∙ sym (short g.row.N c.args.line.now _ c.loop-i.i (option_map (λ x. x.now) c.loop-i.rest) c.loop-i-test.true (ap (option_map (λ x. x.now)) c.in_err-rest.was) c.loop-i.invariant.0)
-
-pub returns-in_err-found : goal.returns-in_err-found
-returns-in_err-found g c =
-    c.from_residual-in_err-found.ensures
-    ∙ sym (no_number g.row.N c.args.line.now _ c.loop-i.i (option_map (λ x. x.now) c.loop-i.rest) _ _ _ c.loop-i-test.true (ap (option_map (λ x. x.now)) c.in_ok-rest.was) c.cut.ensures (sym c.in_err-found.ensures) c.loop-i.invariant.0)
-
-pub loop-i-preserved : goal.loop-i-preserved
-loop-i-preserved g c =
-    let n = c.in_ok-found.field-0 in
-    let long : c.loop-i.i < length c.loop-i.found = omega (arith, c.loop-i.invariant.1, c.loop-i-test.true) in (
-      one_number g.row.N c.args.line.now _ _ c.loop-i.i n (option_map (λ x. x.now) c.loop-i.rest) _ _ _ c.loop-i-test.true (ap (option_map (λ x. x.now)) c.in_ok-rest.was) c.cut.ensures (sym c.in_ok-found.ensures) (take_more_set c.loop-i.found c.loop-i.i n long) c.loop-i.invariant.0,
-      simp length-set c.loop-i.invariant.1,
+pub loop-place-preserved : goal.loop-place-preserved
+loop-place-preserved g c =
+    let n = c.in_ok-place.field-0 in
+    let i = c.loop-place.place-index in
+    let long : i < length c.loop-place.place-items = omega (arith, c.loop-place.invariant.1, c.loop-place-test.true) in (
+      one_number g.row.N c.args.line.now _ _ i n (option_map (λ x. x.now) c.loop-place.rest) _ _ _ c.loop-place-test.true (ap (option_map (λ x. x.now)) c.in_ok-rest.was) c.cut.ensures (sym c.in_ok-place.ensures) (take_more_set c.loop-place.place-items i n long) c.loop-place.invariant.0,
+      simp length-set c.loop-place.invariant.1,
     )
 
-pub returns-in-Some : goal.returns-in-Some
-returns-in-Some g c =
-    sym (too_many g.row.N c.args.line.now _ c.loop-i.i (option_map (λ x. x.now) c.loop-i.rest) _ c.loop-i-test.false (ap (option_map (λ x. x.now)) c.in-Some.is) c.loop-i.invariant.0)
+more_left : (n : Bool) → true ≡ not n → n ≡ false
+more_left true e = e
+more_left false e = refl
 
-pub returns-in-None : goal.returns-in-None
-returns-in-None g c =
-    let all = take_all c.loop-i.i c.loop-i.found (omega (arith, c.loop-i.invariant.1, c.loop-i-test.false)) in
-    sym (just g.row.N c.args.line.now c.loop-i.found _ c.loop-i.i (option_map (λ x. x.now) c.loop-i.rest) c.loop-i-test.false (ap (option_map (λ x. x.now)) c.in-None.is) all c.loop-i.invariant.0)
+none_left : (n : Bool) → false ≡ not n → n ≡ true
+none_left true e = refl
+none_left false e = e
+
+pub returns : goal.returns
+returns g c =
+    let rest = option_map (λ x. x.now) c.loop-place.rest in
+    let line = c.args.line.now in
+    let i = c.loop-place.place-index in
+    let found = c.loop-place.place-items in
+    let end = c.loop-place-test.false in
+    let inv = c.loop-place.invariant.0 in
+    elim c.loop-place.rest as (λ o. c.loop-place.rest ≡ o → c.then_some.result ≡ exactly g.row.N (pieces 32 line)) [
+      | None ↦ λ e.
+          let n = none_left c.is_none.result (sym (ap is_some e) ∙ c.is_none.ensures) in
+          let all = take_all i found (omega (arith, c.loop-place.invariant.1, end)) in
+          c.then_some.ensures ∙ ap (λ b. then_some b found) n ∙ sym (just g.row.N line found _ i rest end (ap (option_map (λ x. x.now)) e) all inv)
+      | Some t ↦ λ e.
+          let n = more_left c.is_none.result (sym (ap is_some e) ∙ c.is_none.ensures) in
+          c.then_some.ensures ∙ ap (λ b. then_some b found) n ∙ sym (too_many g.row.N line _ i rest _ end (ap (option_map (λ x. x.now)) e) inv)
+    ] refl

@@ -3,6 +3,7 @@ use Rattle.calendar.specs.Dates.{first_day, first_counted}
 use Rattle.calendar.specs.declared.date.CalendarMonth.{CalendarMonth}
 use Rattle.tally.specs.Progress.{progress_of, is_full}
 use Rattle.tally.proofs.Closing.{full_days}
+use Rattle.metering.specs.Sums.{Sums}
 use Rattle.tally.proofs.Opening.{after, adjoins, first_counted_lem}
 use Rattle.tally.proofs.progress.OpenMonth.next.Goals as goal
 
@@ -14,14 +15,10 @@ invariant_of-result c =
     let is = c.month_after.ensures in
     let counted = ap first_counted is ∙ first_counted_lem _ (after o.month d.0) in
     let first = ap (λ (m : CalendarMonth). first_day m.year m.month) is ∙ adjoins o.month d.0 in
+    let zero = ap (λ (t : Sums). t.days) c.none.ensures in
     record {
       begun = counted;
-      tied = omega (arith, first, o.tied, d.1);
-      inside = omega arith;
+      tied = omega (arith, first, o.tied, d.1, zero);
+      inside = omega (arith, zero);
       ended = o.ended;
-      range = omega arith;
-      least = omega arith;
-      most = omega arith;
-      few = omega arith;
-      under = omega arith;
     }

@@ -3,6 +3,7 @@ use Rattle.calendar.specs.Dates.{date_of, month_of, first_counted, first_day}
 use Rattle.calendar.specs.declared.date.CalendarMonth.{CalendarMonth}
 use Rattle.calendar.specs.declared.date.Date.{Date}
 use Rattle.calendar.proofs.Numbering.{dated_is}
+use Rattle.metering.specs.Sums.{Sums}
 use Rattle.tally.proofs.Opening.{of_day, at_first, first_counted_lem}
 use Rattle.tally.proofs.progress.OpenMonth.start.Goals as goal
 
@@ -15,14 +16,10 @@ invariant_of-result c =
     let first = at_first n d.0 one in
     let same = ap (λ (m : CalendarMonth). first_day m.year m.month) is in
     let begun = ap first_counted is ∙ first_counted_lem _ (of_day n d.0) in
+    let zero = ap (λ (t : Sums). t.days) c.none.ensures in
     record {
       begun = begun;
-      tied = omega (arith, first, same);
-      inside = omega arith;
+      tied = omega (arith, first, same, zero);
+      inside = omega (arith, zero);
       ended = d.0;
-      range = omega arith;
-      least = omega arith;
-      most = omega arith;
-      few = omega arith;
-      under = omega arith;
     }
