@@ -30,16 +30,15 @@ fn printed(heap: Global, text: &str) -> Result<String, ReportError> {
     }
 }
 
-fn says(
-    rt: &impl Abort,
-    heap: Global,
-    first: &str,
-    days: u32,
-    last: &str,
-    expected: &str,
-) -> Result<(), Fail> {
-    let text = printed(heap, sheet(heap, first, days, last)?.as_str())?;
-    assert!(rt; text.as_str() == expected);
+// A first line, how many days follow it, what stands last, and what is printed.
+type Case<'a> = (&'a str, u32, &'a str, &'a str);
+
+fn all_say(rt: &impl Abort, heap: Global, cases: &[Case]) -> Result<(), Fail> {
+    // a `for`, since `?` ends it
+    for &(first, days, last, expected) in cases {
+        let text = printed(heap, sheet(heap, first, days, last)?.as_str())?;
+        assert!(rt; text.as_str() == expected);
+    }
     Ok(())
 }
 
@@ -55,24 +54,13 @@ const OCTOBER: &str =
 #[test]
 fn reports(rt: HostRuntime) -> Result<(), Fail> {
     let heap = rt.alloc();
-    says(
-        &rt,
-        heap,
-        "metered 2024 6 7 1000000 0 400",
-        30,
-        "\n",
-        METERED,
-    )?;
-    says(&rt, heap, "metered 2024 6 7 1000000 0 400", 30, "", METERED)?;
-    says(&rt, heap, "gs3ev 2024 6 1 0 0 0", 30, "\n", DEMAND)?;
-    says(
-        &rt,
-        heap,
-        "metered 2024 10 7 1000000 0 400",
-        31,
-        "\n",
-        OCTOBER,
-    )
+    let cases = [
+        ("metered 2024 6 7 1000000 0 400", 30, "\n", METERED),
+        ("metered 2024 6 7 1000000 0 400", 30, "", METERED),
+        ("gs3ev 2024 6 1 0 0 0", 30, "\n", DEMAND),
+        ("metered 2024 10 7 1000000 0 400", 31, "\n", OCTOBER),
+    ];
+    all_say(&rt, heap, &cases)
 }
 
 const PLAN: &str = "line 1: the first word is not gs3ev, entered, metered or standby\n";
@@ -84,31 +72,30 @@ const MONTH: &str = "line 1: the month is not 1 to 12, or the year not 2000 to 2
 #[test]
 fn first_lines_that_are_wrong(rt: HostRuntime) -> Result<(), Fail> {
     let heap = rt.alloc();
-    says(&rt, heap, "", 0, "", PLAN)?;
-    says(&rt, heap, "gs3", 0, "", PLAN)?;
-    says(&rt, heap, "gs3ev", 0, "", TERMS)?;
-    says(&rt, heap, "gs3ev 2024 6 1 0 0", 30, "\n", TERMS)?;
-    says(&rt, heap, "gs3ev 2024 6 1 0 0 0 0", 30, "\n", TERMS)?;
-    says(&rt, heap, "gs3ev 2024  6 1 0 0 0", 30, "\n", TERMS)?;
-    says(&rt, heap, "gs3ev 2024 6 1 0 0 4294967296", 30, "\n", TERMS)?;
-    says(
-        &rt,
-        heap,
-        "gs3ev 2024 6 2 0 0 0",
-        30,
-        "\n",
-        "line 1: supply is not 1 or 0\n",
-    )?;
-    says(
-        &rt,
-        heap,
-        "entered 2024 6 10 0 0",
-        30,
-        "\n",
-        "line 1: the schedule code is not 1 to 9\n",
-    )?;
-    says(&rt, heap, "gs3ev 2024 13 1 0 0 0", 30, "\n", MONTH)?;
-    says(&rt, heap, "gs3ev 2100 1 1 0 0 0", 31, "\n", MONTH)
+    let cases = [
+        ("", 0, "", PLAN),
+        ("gs3", 0, "", PLAN),
+        ("gs3ev", 0, "", TERMS),
+        ("gs3ev 2024 6 1 0 0", 30, "\n", TERMS),
+        ("gs3ev 2024 6 1 0 0 0 0", 30, "\n", TERMS),
+        ("gs3ev 2024  6 1 0 0 0", 30, "\n", TERMS),
+        ("gs3ev 2024 6 1 0 0 4294967296", 30, "\n", TERMS),
+        (
+            "gs3ev 2024 6 2 0 0 0",
+            30,
+            "\n",
+            "line 1: supply is not 1 or 0\n",
+        ),
+        (
+            "entered 2024 6 10 0 0",
+            30,
+            "\n",
+            "line 1: the schedule code is not 1 to 9\n",
+        ),
+        ("gs3ev 2024 13 1 0 0 0", 30, "\n", MONTH),
+        ("gs3ev 2100 1 1 0 0 0", 31, "\n", MONTH),
+    ];
+    all_say(&rt, heap, &cases)
 }
 
 const READINGS: &str =
@@ -117,31 +104,23 @@ const READINGS: &str =
 #[test]
 fn days_that_are_wrong(rt: HostRuntime) -> Result<(), Fail> {
     let heap = rt.alloc();
-    says(
-        &rt,
-        heap,
-        "gs3ev 2024 6 1 0 0 0",
-        29,
-        "",
-        "line 31: a day is missing\n",
-    )?;
-    says(&rt, heap, "gs3ev 2024 6 1 0 0 0", 29, "\n", READINGS)?;
-    says(
-        &rt,
-        heap,
-        "gs3ev 2024 6 1 0 0 0",
-        29,
-        "\n1000 1000",
-        READINGS,
-    )?;
-    says(
-        &rt,
-        heap,
-        "gs3ev 2024 6 1 0 0 0",
-        30,
-        "\n\n",
-        "line 32: more lines than the month has days\n",
-    )?;
+    let cases = [
+        (
+            "gs3ev 2024 6 1 0 0 0",
+            29,
+            "",
+            "line 31: a day is missing\n",
+        ),
+        ("gs3ev 2024 6 1 0 0 0", 29, "\n", READINGS),
+        ("gs3ev 2024 6 1 0 0 0", 29, "\n1000 1000", READINGS),
+        (
+            "gs3ev 2024 6 1 0 0 0",
+            30,
+            "\n\n",
+            "line 32: more lines than the month has days\n",
+        ),
+    ];
+    all_say(&rt, heap, &cases)?;
     let mut text = sheet(heap, "gs3ev 2024 6 1 0 0 0", 29, "\n")?;
     text.push_str(HIGH)?;
     let answer = printed(heap, text.as_str())?;
@@ -156,19 +135,20 @@ const BASIS: &str = "line 1: the basis is not open to the schedule (refusal 5)\n
 #[test]
 fn terms_that_are_refused(rt: HostRuntime) -> Result<(), Fail> {
     let heap = rt.alloc();
-    says(&rt, heap, "gs3ev 2024 6 1 100001 0 0", 30, "\n", LIMITS)?;
-    says(&rt, heap, "gs3ev 2024 6 1 0 100001 0", 30, "\n", LIMITS)?;
-    says(&rt, heap, "gs3ev 2024 6 1 0 0 1000001", 30, "\n", LIMITS)?;
-    says(&rt, heap, "entered 2024 6 7 4000000001 0", 30, "\n", LIMITS)?;
-    says(&rt, heap, "entered 2024 6 1 0 0", 30, "\n", LIMITS)?;
-    says(&rt, heap, "metered 2024 6 7 0 0 100001", 30, "\n", LIMITS)?;
-    says(&rt, heap, "metered 2024 6 9 0 0 400", 30, "\n", BASIS)?;
-    says(
-        &rt,
-        heap,
-        "standby 2024 6 0 0 1000 800 500 1501 1750 0 600",
-        30,
-        "\n",
-        LIMITS,
-    )
+    let cases = [
+        ("gs3ev 2024 6 1 100001 0 0", 30, "\n", LIMITS),
+        ("gs3ev 2024 6 1 0 100001 0", 30, "\n", LIMITS),
+        ("gs3ev 2024 6 1 0 0 1000001", 30, "\n", LIMITS),
+        ("entered 2024 6 7 4000000001 0", 30, "\n", LIMITS),
+        ("entered 2024 6 1 0 0", 30, "\n", LIMITS),
+        ("metered 2024 6 7 0 0 100001", 30, "\n", LIMITS),
+        ("metered 2024 6 9 0 0 400", 30, "\n", BASIS),
+        (
+            "standby 2024 6 0 0 1000 800 500 1501 1750 0 600",
+            30,
+            "\n",
+            LIMITS,
+        ),
+    ];
+    all_say(&rt, heap, &cases)
 }
