@@ -14,9 +14,6 @@ same_date p q r = cc
 pub months_fill : (y : ℕ) → total (month_length y) 1 12 ≡ year_length y
 months_fill y = elim (cases_Bool (leap y)) [ inl e ↦ rw e | inr e ↦ rw e ]
 
-pub year_least : (y : ℕ) → 365 ≤ year_length y
-year_least y = cond_both (leap y) 366 365 (λ x. 365 ≤ x) (λ e. omega arith) (λ e. omega arith)
-
 pub year_most : (y : ℕ) → year_length y ≤ 366
 year_most y = cond_both (leap y) 366 365 (λ x. x ≤ 366) (λ e. omega arith) (λ e. omega arith)
 

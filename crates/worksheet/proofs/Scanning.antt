@@ -40,10 +40,6 @@ module _ (n : ℕ) (xs : List ℕ) (i : ℕ) (h : i < length xs) where
   pub read_stops : (digit (get_or xs i 0) && ltb (10 * n + (get_or xs i 0 - 48)) 4294967296) ≡ false → read_on n (drop i xs) ≡ None
   read_stops e = read_more ∙ ap (λ t. cond t (read_on (10 * n + (get_or xs i 0 - 48)) (drop (i + 1) xs)) None) e
 
-  pub read_goes : (digit (get_or xs i 0) && ltb (10 * n + (get_or xs i 0 - 48)) 4294967296) ≡ true
-      → read_on n (drop i xs) ≡ read_on (10 * n + (get_or xs i 0 - 48)) (drop (i + 1) xs)
-  read_goes e = read_more ∙ ap (λ t. cond t (read_on (10 * n + (get_or xs i 0 - 48)) (drop (i + 1) xs)) None) e
-
 pub some_word : (xs : List ℕ) → 0 < length xs → number_of xs ≡ read_on 0 xs
 some_word [] h = absurd (omega arith)
 some_word (x ∷ xs) h = refl
@@ -94,12 +90,6 @@ module _ (k : ℕ) (line : List ℕ) where
   word xs i rest text w ws h e p inv =
       let n : k - i ≡ suc (k - (i + 1)) = omega arith in
       sym (ap (λ r. prefix xs (exactly (k - i) (pieces_in 32 r))) e ∙ ap (λ ps. prefix xs (exactly (k - i) ps)) p ∙ ap (λ m. prefix xs (exactly m (w ∷ ws))) n) ∙ inv
-
-  -- which is no number
-  pub no_number : (xs : List ℕ) (i : ℕ) (rest : Option (List ℕ)) (text w : List ℕ) (ws : List (List ℕ)) → i < k → rest ≡ Some text → pieces 32 text ≡ w ∷ ws
-      → number_of w ≡ None → prefix xs (exactly (k - i) (pieces_in 32 rest)) ≡ exactly k (pieces 32 line) → exactly k (pieces 32 line) ≡ None
-  no_number xs i rest text w ws h e p none inv =
-      sym (word xs i rest text w ws h e p inv) ∙ ap (λ o. prefix xs (before o (exactly (k - (i + 1)) ws))) none
 
   -- which is the number n
   pub one_number : (xs ys : List ℕ) (i n : ℕ) (rest : Option (List ℕ)) (text w : List ℕ) (ws : List (List ℕ)) → i < k → rest ≡ Some text → pieces 32 text ≡ w ∷ ws
