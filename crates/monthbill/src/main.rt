@@ -1,7 +1,7 @@
 // Bills one month: reads a worksheet from standard input and prints its report.
 #![tactic(auto)]
 
-use report::print::{ReportError, answer_to};
+use report::print::{FaultLine, ReportError, answer_to};
 use std::io::Read;
 use std::process::ExitCode;
 
@@ -16,7 +16,7 @@ fn main(rt: HostRuntime) -> anyhow::Result<ExitCode> {
             Ok(ExitCode::SUCCESS)
         }
         Err(ReportError::Worksheet(fault)) => {
-            eprintln!(rt; "{fault}")?;
+            eprint!(rt; "{}", FaultLine(fault))?;
             Ok(ExitCode::FAILURE)
         }
         Err(error) => Err(error.into()),

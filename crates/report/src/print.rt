@@ -1,6 +1,6 @@
 // What is printed: the report of a worksheet, or the line that is wrong and why.
 ghost use Rattle.std.specs.Prelude.{◌≡◌, ◌++◌, true, IfOk, IfErr, Some, string_bytes};
-ghost use Rattle.report.specs.Reports.{amount, energy_text, way, way_of, credit_line, report_of, error_text, Answers, Refuses};
+ghost use Rattle.report.specs.Reports.{amount, energy_text, way, way_of, credit_line, report_of, fault_line, error_text, Answers, Refuses};
 ghost use Rattle.report.specs.declared.print.ReportError.TheVariants.{Worksheet, OutOfMemory};
 
 use crate::work::{Worked, work};
@@ -120,6 +120,18 @@ impl fmt::Display for Report<'_> {
             Dollars(worked.bill)
         )?;
         write!(f, "{}", CreditLine(worked.credit))
+    }
+}
+
+// A fault, shown as the whole line that is printed of a worksheet that is wrong, with its end.
+#[derive(Clone, Copy, Debug, PartialEq, Eq)]
+pub struct FaultLine(pub Fault);
+
+impl fmt::Display for FaultLine {
+    ghost output = { λ l. Some (fault_line l.0) };
+
+    fn fmt<W: fmt::Write>(&self, f: &mut fmt::Formatter<W>) -> fmt::Result {
+        write!(f, "{}\n", self.0)
     }
 }
 

@@ -1,5 +1,5 @@
 // The report of a worksheet, or the line that is wrong and why; the amounts are those of `tools/expected.py`.
-use report::print::{ReportError, answer_to};
+use report::print::{FaultLine, ReportError, answer_to};
 use std::alloc::{AllocError, Global};
 use std::process::Abort;
 use std::test::Fail;
@@ -25,7 +25,7 @@ fn sheet(heap: Global, first: &str, days: u32, last: &str) -> Result<String, All
 // What is printed of a worksheet: its report, or the line that is wrong.
 fn printed(heap: Global, text: &str) -> Result<String, ReportError> {
     match answer_to(heap, text.as_bytes()) {
-        Err(ReportError::Worksheet(fault)) => Ok(format!(in heap; "{fault}\n")?),
+        Err(ReportError::Worksheet(fault)) => Ok(format!(in heap; "{}", FaultLine(fault))?),
         answer => answer,
     }
 }
