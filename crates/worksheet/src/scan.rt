@@ -36,7 +36,8 @@ pub(crate) fn number(word: &[u8]) -> Option<u32>
     }
     let mut value = 0u32;
     for byte in word {
-        value = value.checked_mul(10)?.checked_add(digit(*byte)?)?;
+        let next = 10 * u64::from(value) + u64::from(digit(*byte)?);
+        value = u32::try_from(next).ok()?;
     }
     Some(value)
 }
