@@ -43,10 +43,11 @@ impl Date {
     pub fn day_number(&self) -> Option<u32>
         ensures { result ≡ number_of self.now }
     {
-        let first = self.calendar_month().first_day()?;
+        // The day is tested first: to find the month's first day, years and months are counted.
         if self.day < 1 || self.day > month_length(self.year, self.month) {
             return None;
         }
+        let first = self.calendar_month().first_day()?;
         let number = first + (self.day - 1);
         (number <= LAST_DAY).then_some(number)
     }
