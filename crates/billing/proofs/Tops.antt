@@ -1,8 +1,14 @@
 -- The highest item: the best of references, and that it leads the run.
-use Rattle.std.proofs.Common.{◌≡◌, ℕ, Bool, true, false, cond, List, [], ◌∷◌, ◌++◌, map, Bor, sym, refl, ap, ◌∙◌, arith}
+use Rattle.std.proofs.Common.{◌≡◌, ℕ, ◌≤◌, Bool, true, false, cond, List, [], ◌∷◌, ◌++◌, length, get_or, drop, map, Some, Bor, sym, refl, ap, ◌∙◌, arith}
 use Rattle.std.specs.List.{AllByRecursion, fold}
 use Rattle.std.proofs.lemmas.Bool.Decides.{nat_tests}
-use Rattle.billing.specs.Highest.{lower, best, Leads, Order}
+use Rattle.billing.specs.Highest.{lower, best, highest, Leads, Order}
+
+-- the whole list from its first item and the rest
+pub whole : {X : Type 0} (low : X → X → Bool) (xs : List X) (d : X) → 1 ≤ length xs
+    → highest low xs ≡ Some (best low (get_or xs 0 d) (drop 1 xs))
+whole low [] d h = absurd (omega arith)
+whole low (x ∷ xs) d h = refl
 
 module _ {X : Type 0} (low : X → X → Bool) where
   -- which of two references goes on as the best so far
@@ -65,7 +71,8 @@ module _ {X : Type 0} (low : X → X → Bool) (order : Order low) where
   kept : (b x r : X) (xs : List X) → low b x ≡ false → Leads low (b ∷ xs) r → Leads low (b ∷ x ∷ xs) r
   kept b x r xs h l = behind b x r xs l.before l.after h l.split l.first l.top
 
-  best_leads : (b : X) (xs : List X) → Leads low (b ∷ xs) (best low b xs)
+  -- the best of an item and those after it leads them, whatever orders the items
+  pub best_leads : (b : X) (xs : List X) → Leads low (b ∷ xs) (best low b xs)
   best_leads b [] = record { before = []; after = []; split = refl; first = tt; top = tt }
   best_leads b (x ∷ xs) =
       elim (low b x) as (λ t. low b x ≡ t → Leads low (b ∷ x ∷ xs) (best low (cond t x b) xs)) [
@@ -73,10 +80,15 @@ module _ {X : Type 0} (low : X → X → Bool) (order : Order low) where
         | false ↦ λ e. kept b x (best low b xs) xs e (best_leads b xs)
       ] refl
 
+  -- and so the highest of a run leads it
+  pub highest_leads : (xs : List X) (x : X) → highest low xs ≡ Some x → Leads low xs x
+  highest_leads [] x e = absurd (let z : ◌≡◌ {A = ℕ} 0 1 = cc in omega arith)
+  highest_leads (y ∷ xs) x e = let i : best low y xs ≡ x = cc in rw i at (best_leads y xs)
+
 -- items are ordered by the kW that they tell
-by_kw : {X : Type 0} (kw : X → ℕ) → Order (lower kw)
+pub by_kw : {X : Type 0} (kw : X → ℕ) → Order (lower kw)
 by_kw kw = record { apart = λ x y h. grind (arith, nat_tests); chain = λ x y z h k. grind (arith, nat_tests) }
 
--- the best of an item and those after it leads them
+-- the same by the kW that they tell
 pub best_by_kw : {X : Type 0} (kw : X → ℕ) (b : X) (xs : List X) → Leads (lower kw) (b ∷ xs) (best (lower kw) b xs)
 best_by_kw kw = best_leads (lower kw) (by_kw kw)
